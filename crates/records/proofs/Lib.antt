@@ -1,0 +1,4 @@
+pub mod Signed
+pub mod Lists
+pub mod ByKind
+pub mod Nearest

@@ -1,0 +1,21 @@
+-- `records::record::q_at` meets its contract. Assumes nothing.
+use borrow.Author.Needs.{needs}
+use Rattle.model.specs.Record.{qAt}
+use Rattle.records.proofs.record.q_at.Statement.{statement}
+use Rattle.records.proofs.record.q_at.Tie as tie
+
+mul-byte-at : tie.Need-mul-byte-at
+mul-byte-at c = search needs
+
+add-byte-at : tie.Need-add-byte-at
+add-byte-at c = search needs
+
+byte-at-requires : tie.Need-byte-at-requires
+byte-at-requires c κs = search needs
+
+returns : tie.Need-returns
+unfolding qAt
+returns c = c .byte-at .ensures
+
+pub q-at-spec : {M : Type 1} → statement M
+q-at-spec = tie.close (tie.spec mul-byte-at add-byte-at byte-at-requires returns)

@@ -1,0 +1,104 @@
+// How records hang together: the parts of a compound, and which records are parts.
+use crate::record::record_at;
+use model::CompoundTerm;
+use model::Record;
+ghost use mathlib.Core.Path.{_≡_};
+ghost use lib.Dec.{eqb};
+ghost use Rattle.model.specs.Search.{anyIn};
+ghost use Rattle.model.specs.Record.{recordAt, isTerm, partsOf};
+ghost use Rattle.model.specs.Check.{isPart};
+ghost use Rattle.records.specs.Parts.{partList, partsIn};
+
+// The parts of a record by their numbers: how many, and the left and the right one as far as there are any.
+pub struct Parts {
+    pub count: u8,
+    pub left: u8,
+    pub right: u8,
+}
+
+// Whether record j is a part of one of the first n records.
+pub fn is_part(table: &[u8], n: u8, j: u8) -> bool
+    ensures { λ r. ⌜ r ≡ isPart (now (table .entry)) n j ⌝ }
+{
+    let mut i = 0u8;
+    while i < n {
+        if has_part(table, i, j) {
+            return true;
+        }
+        i += 1;
+    }
+    false
+}
+
+// Whether record j is a part of record i.
+fn has_part(table: &[u8], i: u8, j: u8) -> bool
+    ensures { λ r. ⌜ r ≡ anyIn (partsOf (recordAt (now (table .entry)) i)) (eqb j) ⌝ }
+{
+    let s = parts_at(table, i);
+    ((1 <= s.count) & (j == s.left)) | ((2 <= s.count) & (j == s.right))
+}
+
+// The parts of record k.
+pub fn parts_at(table: &[u8], k: u8) -> Parts
+    ensures { λ r. ⌜ partList (r .count) (r .left) (r .right) ≡ partsOf (recordAt (now (table .entry)) k) ⌝ }
+{
+    parts_of(record_at(table, k))
+}
+
+fn parts_of(r: Record) -> Parts
+    ensures { λ s. ⌜ partList (s .count) (s .left) (s .right) ≡ partsOf r ⌝ }
+{
+    match r {
+        Record::Compound(c) => parts_in(c),
+        Record::Value(_) => Parts {
+            count: 0,
+            left: 0,
+            right: 0,
+        },
+        Record::Base(_, _) => Parts {
+            count: 0,
+            left: 0,
+            right: 0,
+        },
+        Record::Unknown => Parts {
+            count: 0,
+            left: 0,
+            right: 0,
+        },
+    }
+}
+
+fn parts_in(c: CompoundTerm) -> Parts
+    ensures { λ s. ⌜ partList (s .count) (s .left) (s .right) ≡ partsIn c ⌝ }
+{
+    match c {
+        CompoundTerm::Joined(_, p, q) => Parts {
+            count: 2,
+            left: p,
+            right: q,
+        },
+        CompoundTerm::Dual(p) => Parts {
+            count: 1,
+            left: p,
+            right: 0,
+        },
+    }
+}
+
+// Whether record k is a term record.
+pub fn is_term_at(table: &[u8], k: u8) -> bool
+    ensures { λ r. ⌜ r ≡ isTerm (recordAt (now (table .entry)) k) ⌝ }
+{
+    is_term(record_at(table, k))
+}
+
+fn is_term(r: Record) -> bool
+    ensures { λ b. ⌜ b ≡ isTerm r ⌝ }
+{
+    match r {
+        Record::Value(_) => false,
+        Record::Base(_, _) => true,
+        Record::Compound(_) => true,
+        Record::Unknown => false,
+    }
+}

@@ -1,0 +1,41 @@
+-- FILLER as a table: which of p, q, s, u and v must be zero.
+use mathlib.Core.Bool.{Bool, true, false, not, cond, _&&_}
+use mathlib.Core.List.{List, [], _∷_}
+use Prim.Native.Nat.{ℕ}
+use lib.Dec.{eqb, ltb}
+use lib.IntN.{pos}
+use Rattle.model.specs.declared.Record.{Record}
+use Rattle.model.specs.declared.BaseTerm.the-variants.{Lowest, Highest, Around, Between, Pos, Neg, PosNeg, PosPos}
+use Rattle.model.specs.declared.BaseTerm.the-variants.{Explicit, Any}
+use Rattle.model.specs.declared.CompoundTerm.the-variants.{Joined, Dual}
+use Rattle.model.specs.declared.Record.the-variants.{Base, Compound, Unknown}
+use Rattle.model.specs.Record.{recordOf}
+
+-- A column alone; a column and u; a column, u and v; two parts.
+abbrev pub onlyP : List Bool
+onlyP = false ∷ true ∷ true ∷ true ∷ true ∷ []
+
+abbrev pub mustBeZero : Record → List Bool
+mustBeZero (Record.Value a) = false ∷ true ∷ true ∷ false ∷ not (eqb (a .role) 4) ∷ []
+mustBeZero (Base column Lowest) = onlyP
+mustBeZero (Base column Highest) = onlyP
+mustBeZero (Base column (Around wish)) = false ∷ true ∷ true ∷ false ∷ true ∷ []
+mustBeZero (Base column (Between low up)) = false ∷ true ∷ true ∷ false ∷ false ∷ []
+mustBeZero (Base column Pos) = onlyP
+mustBeZero (Base column Neg) = onlyP
+mustBeZero (Base column PosNeg) = onlyP
+mustBeZero (Base column PosPos) = onlyP
+mustBeZero (Base column Explicit) = onlyP
+mustBeZero (Base column Any) = onlyP
+mustBeZero (Compound (Joined op left right)) = false ∷ false ∷ true ∷ true ∷ true ∷ []
+mustBeZero (Compound (Dual part)) = onlyP
+mustBeZero Unknown = false ∷ false ∷ false ∷ false ∷ false ∷ []
+
+-- The constant table's row for a kind and a role: 20 for an edge, 11 (no kind) for every kind that is not in the list.
+unfoldable pub rowOf : ℕ → ℕ → ℕ
+rowOf kind role = cond (eqb kind 0 && eqb role 4) 20 (cond (ltb kind 20) kind 11)
+
+-- What stands in it.
+abbrev pub zeroRow : ℕ → List Bool
+zeroRow row =
+    cond (eqb row 20) (mustBeZero (recordOf 0 4 0 (pos 0) (pos 0))) (mustBeZero (recordOf row 0 0 (pos 0) (pos 0)))

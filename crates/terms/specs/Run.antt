@@ -1,0 +1,28 @@
+-- A run of value records after a term record, and the rules that look at it with the term handed in.
+use mathlib.Core.Path.{_≡_}
+use mathlib.Core.Bool.{Bool, _&&_, _||_}
+use mathlib.Core.List.{List}
+use Prim.Native.Nat.{ℕ, _+_, _<_, _≤_}
+use lib.Dec.{eqb}
+use Rattle.model.specs.declared.Record.{Record}
+use Rattle.model.specs.Search.{anyIn}
+use Rattle.model.specs.Record.{kindAt, pAt, recordAt}
+use Rattle.model.specs.Check.{clash, closesCycle}
+use Rattle.laws.specs.Runs.{valuesBetween}
+use Rattle.records.specs.Fields.{valueAt}
+
+-- The records between j and k are at most 16 value records.
+pub record Values (table : List ℕ) (j k : ℕ) : Type 0 where
+  pub before : j < k
+  pub few : k ≤ j + 17
+  pub last : k ≤ 128
+  pub each : (i : ℕ) → j < i → i < k → recordAt table i ≡ Record.Value (valueAt table i)
+
+-- 10 CLASH, of value record k whose term is record j.
+unfoldable pub clashIn : List ℕ → ℕ → ℕ → Bool
+clashIn table j k =
+    (eqb (kindAt table j) 7 || eqb (kindAt table j) 8) && anyIn (valuesBetween table j k) (clash (valueAt table k))
+
+-- 11 LOOP, of value record k whose term is record j.
+unfoldable pub loopIn : List ℕ → ℕ → ℕ → Bool
+loopIn table j k = eqb (pAt table k) 4 && closesCycle (valuesBetween table j k) (valueAt table k)
