@@ -1,0 +1,49 @@
+-- `check_cases::write::clear` is safe and ends: the slice keeps its length. Assumes nothing.
+use Prim.Native.Nat.{_≤_, _-_}
+use mathlib.Core.Path.{_≡_}
+use lib.ListN.{length, length-set}
+use native.Mathlib.Omega.{arith}
+use borrow.Author.Needs.{needs}
+use Rattle.check_cases.proofs.write.clear.Statement.{statement}
+use Rattle.check_cases.proofs.write.clear.Tie as tie
+
+abbrev Inv-loop : tie.InvT-loop
+Inv-loop t₀ i₀ t i = (i ≤ length t) × (length t ≡ length t₀)
+
+abbrev μ-loop : tie.MeasureT-loop
+μ-loop t₀ i₀ t i = length t - i
+
+loop-holds : tie.Need-loop-holds Inv-loop μ-loop
+loop-holds c = search needs
+
+slice-write-t : tie.Need-slice-write-t Inv-loop μ-loop
+slice-write-t c = search needs
+
+add-i : tie.Need-add-i Inv-loop μ-loop
+add-i c = search needs
+
+loop-less : tie.Need-loop-less Inv-loop μ-loop
+loop-less c = simp length-set (omega arith)
+
+loop-again : tie.Need-loop-again Inv-loop μ-loop
+loop-again c = simp length-set (omega arith, search needs)
+
+same-length : tie.Need-same-length Inv-loop μ-loop
+same-length c = search needs
+
+returns : tie.Need-returns Inv-loop μ-loop
+returns c = search needs
+
+pub clear-spec : {M : Type 1} → statement M
+clear-spec =
+    tie.close
+    (tie.spec
+    Inv-loop
+    μ-loop
+    loop-holds
+    slice-write-t
+    add-i
+    loop-less
+    loop-again
+    same-length
+    returns)
