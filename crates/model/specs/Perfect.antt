@@ -9,7 +9,7 @@ use Rattle.model.specs.Check.{byVerdict}
 use Rattle.model.specs.Compare.{failsRow, termVerdict}
 
 -- The test holds of some 32-bit value: of one of the 4,294,967,296 words, read as two's complement. Contracts cite it;
--- nobody runs it. That it is the quantifier over all 32-bit values is the theorem `some-value` of `laws`.
+-- nobody runs it. That it is the quantifier over all 32-bit values is the theorem `some_value_is_some` of `laws`.
 unfoldable pub someValue : (ℤ → Bool) → Bool
 someValue test = anyBelow 4294967296 (λ word. test (signed word))
 
@@ -20,7 +20,7 @@ perfect true (base column b values) x = not (someValue (λ y. betterValue b valu
 perfect odd (pair op l r) x = perfect odd l x && perfect odd r x
 perfect odd (dual t) x = perfect (not odd) t x
 
--- The same as a type (theorem `perfect-all` of `laws`).
+-- The same as a type (theorem `perfect_is_all` of `laws`).
 unfoldable pub Perfect : (odd : Bool) → Term → Row → Type 0
 Perfect false (base column b values) x =
     (y : ℤ) → Value32 y → betterValue b values (cell x column) y ≡ true → ⊥

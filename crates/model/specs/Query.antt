@@ -13,7 +13,7 @@ use Rattle.model.specs.Compare.{termVerdict}
 unfoldable pub kept : ℕ → (ℕ → ℕ → Bool) → ℕ → Bool
 kept n beats i = not (anyBelow n (λ j. beats j i))
 
--- The same as a type. Contracts cite `kept`; the theorem `kept-unbeaten` of `laws` says that they agree.
+-- The same as a type. Contracts cite `kept`; the theorem `kept_is_unbeaten` of `laws` says that they agree.
 abbrev pub Unbeaten : ℕ → (ℕ → ℕ → Bool) → ℕ → Type 0
 Unbeaten n beats i = (j : ℕ) → j < n → beats j i ≡ true → ⊥
 
@@ -21,7 +21,7 @@ Unbeaten n beats i = (j : ℕ) → j < n → beats j i ≡ true → ⊥
 unfoldable pub answer : ℕ → (ℕ → ℕ → Bool) → ℕ → ℕ
 answer n beats i = cond (kept n beats i) i (findBelow n (λ j. kept n beats j && beats j i))
 
--- The entry of a dropped row as a type: the lowest kept row that is better (theorem `answer-lowest` of `laws`).
+-- The entry of a dropped row as a type: the lowest kept row that is better (theorem `entry_is_lowest_kept` of `laws`).
 pub record LowestKept (n : ℕ) (beats : ℕ → ℕ → Bool) (i entry : ℕ) : Type 0 where
   pub row : entry < n
   pub keeps : Unbeaten n beats entry

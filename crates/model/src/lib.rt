@@ -1,6 +1,5 @@
 // The vocabulary of document 01: its limits, a table's records as they are decoded, and what the calls reply.
-// What each of them means stands in specs/, in the document's order: Bytes, Record, Term, Better, Check, Compare,
-// Query, Perfect, Replies, Pick.
+// What each of them means stands in specs/, in the order that specs/Lib.antt gives.
 
 pub mod cases;
 

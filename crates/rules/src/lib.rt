@@ -1,3 +1,121 @@
-// The refusals of document 01 that can be told of any record of any bytes: 1 to 8, 12 and 14.
+// The refusals of document 01 that can be told of any record of any bytes: 1 to 8, 12 and 14. CLASH and LOOP, which look at
+// a term's earlier values, stand in `terms`; CROWD and APART, with the order of all of them, in `table`.
 pub mod filler;
-pub mod rules;
+
+use model::MOST_COLUMNS;
+use model::MOST_TABLE_BYTES;
+use model::RECORD_BYTES;
+use model::Record;
+use records::parts::is_part;
+use records::parts::is_term_at;
+use records::parts::parts_at;
+use records::record::kind_at;
+use records::record::p_at;
+use records::record::record_at;
+use records::record::u_at;
+use records::record::v_at;
+use records::values::nearest_term;
+use records::values::takes_role;
+ghost use mathlib.Core.Path.{_≡_};
+ghost use mathlib.Core.Bool.{not, _&&_};
+ghost use lib.Dec.{ltb};
+ghost use Rattle.model.specs.Record.{recordAt, isTerm};
+ghost use Rattle.model.specs.Check.{failsWidth, failsLength, failsKind, failsColumn, failsPart, failsReused, failsStray, failsBounds};
+ghost use Rattle.rules.specs.Rules.{looseIn};
+
+// 1 WIDTH: column count not 1 to 8.
+pub fn fails_width(columns: usize) -> bool
+    ensures { λ r. ⌜ r ≡ failsWidth columns ⌝ }
+{
+    !((1 <= columns) & (columns <= MOST_COLUMNS))
+}
+
+// 2 LENGTH: table bytes 0, over 1,536, or not a multiple of 12.
+pub fn fails_length(table: &[u8]) -> bool
+    ensures { λ r. ⌜ r ≡ failsLength (now (table .entry)) ⌝ }
+{
+    let n = table.len();
+    (n == 0) | (MOST_TABLE_BYTES < n) | (n % RECORD_BYTES != 0)
+}
+
+// 3 KIND: kind not in the list.
+pub fn fails_kind(r: Record) -> bool
+    ensures { λ b. ⌜ b ≡ failsKind r ⌝ }
+{
+    match r {
+        Record::Value(_) => false,
+        Record::Base(_, _) => false,
+        Record::Compound(_) => false,
+        Record::Unknown => true,
+    }
+}
+
+// 5 COLUMN: base term's column not below the count.
+pub fn fails_column(columns: u8, r: Record) -> bool
+    ensures { λ b. ⌜ b ≡ failsColumn columns r ⌝ }
+{
+    match r {
+        Record::Base(column, _) => !(column < columns),
+        Record::Value(_) => false,
+        Record::Compound(_) => false,
+        Record::Unknown => false,
+    }
+}
+
+// 6 PART: part not below the record's own number, or not a term.
+pub fn fails_part(table: &[u8], k: u8) -> bool
+    ensures { λ r. ⌜ r ≡ failsPart (now (table .entry)) k ⌝ }
+{
+    let s = parts_at(table, k);
+    ((1 <= s.count) & no_term_below(table, k, s.left))
+        | ((2 <= s.count) & no_term_below(table, k, s.right))
+}
+
+fn no_term_below(table: &[u8], k: u8, part: u8) -> bool
+    ensures { λ r. ⌜ r ≡ not (ltb part k && isTerm (recordAt (now (table .entry)) part)) ⌝ }
+{
+    !((part < k) & is_term_at(table, part))
+}
+
+// 7 REUSED: part already a part of an earlier term, or both parts the same.
+pub fn fails_reused(table: &[u8], k: u8) -> bool
+    ensures { λ r. ⌜ r ≡ failsReused (now (table .entry)) k ⌝ }
+{
+    let s = parts_at(table, k);
+    if s.count == 0 {
+        return false;
+    }
+    let left = is_part(table, k, s.left);
+    if s.count == 1 {
+        return left;
+    }
+    (left | is_part(table, k, s.right)) | (s.left == s.right)
+}
+
+// 8 STRAY: value with no term before it, or role not taken there.
+pub fn fails_stray(table: &[u8], k: u8) -> bool
+    ensures { λ r. ⌜ r ≡ failsStray (now (table .entry)) k ⌝ }
+{
+    let owner = record_at(table, nearest_term(table, k));
+    (kind_at(table, k) == 0) & !takes_role(owner, p_at(table, k))
+}
+
+// 12 BOUNDS: BETWEEN with low above up.
+pub fn fails_bounds(table: &[u8], k: u8) -> bool
+    ensures { λ r. ⌜ r ≡ failsBounds (now (table .entry)) k ⌝ }
+{
+    (kind_at(table, k) == 4) & (v_at(table, k) < u_at(table, k))
+}
+
+// 14 LOOSE, of the first n records: a term other than the last that is no part.
+pub fn fails_loose(table: &[u8], n: u8, k: u8) -> bool
+    ensures { λ r. ⌜ r ≡ looseIn (now (table .entry)) n k ⌝ }
+{
+    if !is_term_at(table, k) {
+        return false;
+    }
+    if k == nearest_term(table, n) {
+        return false;
+    }
+    !is_part(table, n, k)
+}

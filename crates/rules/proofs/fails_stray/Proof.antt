@@ -1,4 +1,4 @@
--- `rules::rules::fails_stray` meets its contract. Assumes nothing.
+-- `rules::fails_stray` meets its contract. Assumes nothing.
 use mathlib.Core.Bool.{not}
 use lib.Dec.{eqb}
 use denote.Ref.{now}
@@ -8,8 +8,8 @@ use Rattle.model.specs.Search.{anyIn}
 use Rattle.model.specs.Record.{recordAt, rolesOf, nearestTerm}
 use Rattle.model.specs.Check.{failsStray, ownerAt}
 use Rattle.records.proofs.ByKind.{any-value}
-use Rattle.rules.proofs.rules.fails_stray.Statement.{statement}
-use Rattle.rules.proofs.rules.fails_stray.Tie as tie
+use Rattle.rules.proofs.fails_stray.Statement.{statement}
+use Rattle.rules.proofs.fails_stray.Tie as tie
 
 nearest-term-requires : tie.Need-nearest-term-requires
 nearest-term-requires c κs = search needs

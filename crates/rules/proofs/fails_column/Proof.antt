@@ -1,7 +1,7 @@
--- `rules::rules::fails_column` meets its contract. Assumes nothing.
+-- `rules::fails_column` meets its contract. Assumes nothing.
 use borrow.Author.Needs.{needs}
-use Rattle.rules.proofs.rules.fails_column.Statement.{statement}
-use Rattle.rules.proofs.rules.fails_column.Tie as tie
+use Rattle.rules.proofs.fails_column.Statement.{statement}
+use Rattle.rules.proofs.fails_column.Tie as tie
 
 enum-known-r : tie.Need-enum-known-r
 enum-known-r c = search needs

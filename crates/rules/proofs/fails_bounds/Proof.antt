@@ -1,9 +1,9 @@
--- `rules::rules::fails_bounds` meets its contract. Assumes nothing.
+-- `rules::fails_bounds` meets its contract. Assumes nothing.
 use borrow.Author.Needs.{needs}
 use Rattle.model.specs.Check.{failsBounds}
 use Rattle.records.proofs.Signed.{returned}
-use Rattle.rules.proofs.rules.fails_bounds.Statement.{statement}
-use Rattle.rules.proofs.rules.fails_bounds.Tie as tie
+use Rattle.rules.proofs.fails_bounds.Statement.{statement}
+use Rattle.rules.proofs.fails_bounds.Tie as tie
 
 kind-at-requires : tie.Need-kind-at-requires
 kind-at-requires c κs = search needs

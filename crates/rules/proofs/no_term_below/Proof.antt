@@ -1,7 +1,7 @@
--- `rules::rules::no_term_below` meets its contract. Assumes nothing.
+-- `rules::no_term_below` meets its contract. Assumes nothing.
 use borrow.Author.Needs.{needs}
-use Rattle.rules.proofs.rules.no_term_below.Statement.{statement}
-use Rattle.rules.proofs.rules.no_term_below.Tie as tie
+use Rattle.rules.proofs.no_term_below.Statement.{statement}
+use Rattle.rules.proofs.no_term_below.Tie as tie
 
 is-term-at-requires : tie.Need-is-term-at-requires
 is-term-at-requires c κs = search needs

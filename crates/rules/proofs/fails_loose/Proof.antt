@@ -1,10 +1,10 @@
--- `rules::rules::fails_loose` meets its contract. Assumes nothing.
+-- `rules::fails_loose` meets its contract. Assumes nothing.
 use mathlib.Core.Path.{_∙_, sym}
 use borrow.Author.Tests.{eq-eqb, ne-eqb, not-true, not-false}
 use borrow.Author.Needs.{needs}
 use Rattle.rules.specs.Rules.{looseIn}
-use Rattle.rules.proofs.rules.fails_loose.Statement.{statement}
-use Rattle.rules.proofs.rules.fails_loose.Tie as tie
+use Rattle.rules.proofs.fails_loose.Statement.{statement}
+use Rattle.rules.proofs.fails_loose.Tie as tie
 
 is-term-at-requires : tie.Need-is-term-at-requires
 is-term-at-requires c κs = search needs

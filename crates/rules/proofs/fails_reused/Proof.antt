@@ -1,4 +1,4 @@
--- `rules::rules::fails_reused` meets its contract. Assumes nothing.
+-- `rules::fails_reused` meets its contract. Assumes nothing.
 use mathlib.Core.Path.{sym}
 use Prim.Native.Nat.{_≤_}
 use native.Mathlib.Omega.{arith}
@@ -6,8 +6,8 @@ use denote.Ref.{now}
 use borrow.Author.Needs.{needs}
 use Rattle.model.specs.Check.{isPart, failsReused}
 use Rattle.records.proofs.Lists.{reused-none, reused-one, reused-two}
-use Rattle.rules.proofs.rules.fails_reused.Statement.{statement}
-use Rattle.rules.proofs.rules.fails_reused.Tie as tie
+use Rattle.rules.proofs.fails_reused.Statement.{statement}
+use Rattle.rules.proofs.fails_reused.Tie as tie
 
 parts-at-requires : tie.Need-parts-at-requires
 parts-at-requires c κs = search needs

@@ -1,4 +1,4 @@
--- `rules::rules::fails_part` meets its contract. Assumes nothing.
+-- `rules::fails_part` meets its contract. Assumes nothing.
 use mathlib.Core.Path.{_∙_, ap}
 use mathlib.Core.Bool.{Bool, not, _&&_}
 use mathlib.Core.List.{List}
@@ -10,8 +10,8 @@ use Rattle.model.specs.Search.{anyIn}
 use Rattle.model.specs.Record.{recordAt, isTerm}
 use Rattle.model.specs.Check.{failsPart}
 use Rattle.records.proofs.Lists.{any-parts}
-use Rattle.rules.proofs.rules.fails_part.Statement.{statement}
-use Rattle.rules.proofs.rules.fails_part.Tie as tie
+use Rattle.rules.proofs.fails_part.Statement.{statement}
+use Rattle.rules.proofs.fails_part.Tie as tie
 
 parts-at-requires : tie.Need-parts-at-requires
 parts-at-requires c κs = search needs

@@ -1,8 +1,8 @@
--- `rules::rules::fails_length` meets its contract. Assumes nothing.
+-- `rules::fails_length` meets its contract. Assumes nothing.
 use mathlib.Core.Path.{refl}
 use Rattle.model.specs.Check.{failsLength}
-use Rattle.rules.proofs.rules.fails_length.Statement.{statement}
-use Rattle.rules.proofs.rules.fails_length.Tie as tie
+use Rattle.rules.proofs.fails_length.Statement.{statement}
+use Rattle.rules.proofs.fails_length.Tie as tie
 
 returns : tie.Need-returns
 unfolding failsLength

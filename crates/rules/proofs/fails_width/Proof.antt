@@ -1,8 +1,8 @@
--- `rules::rules::fails_width` meets its contract. Assumes nothing.
+-- `rules::fails_width` meets its contract. Assumes nothing.
 use mathlib.Core.Path.{refl}
 use Rattle.model.specs.Check.{failsWidth}
-use Rattle.rules.proofs.rules.fails_width.Statement.{statement}
-use Rattle.rules.proofs.rules.fails_width.Tie as tie
+use Rattle.rules.proofs.fails_width.Statement.{statement}
+use Rattle.rules.proofs.fails_width.Tie as tie
 
 returns : tie.Need-returns
 unfolding failsWidth
