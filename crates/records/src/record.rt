@@ -26,7 +26,7 @@ pub fn record_at(table: &[u8], k: u8) -> Record
 }
 
 // The record of a kind with these fields.
-fn record_of(kind: u8, p: u8, q: u8, u: i32, v: i32) -> Record
+pub fn record_of(kind: u8, p: u8, q: u8, u: i32, v: i32) -> Record
     ensures { λ r. ⌜ r ≡ recordOf kind p q u v ⌝ }
 {
     match kind {

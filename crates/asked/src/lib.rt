@@ -1,0 +1,2 @@
+// The vetting of a call that asks for a term (document 01): what the table's check refuses, then 15 ROWS and 16 TERM.
+pub mod vetted;
