@@ -1,0 +1,71 @@
+-- `values::vetted::prepared::numbers` meets its contract. The first `i` numbers stand in the array. Assumes nothing.
+use mathlib.Core.Path.{_≡_, refl, _∙_}
+use Prim.Native.Nat.{ℕ, _-_, _≤_, _<_}
+use native.Mathlib.Omega.{arith}
+use native.Mathlib.Nat.{not-suc-le-zero}
+use lib.IntN.{ℤ, pos}
+use lib.ListN.{length, getD, length-set}
+use mir.Syntax.{w32}
+use mir.Val.{toZ, ofZ}
+use mir.Facts.{toZ-ofZ}
+use denote.Ref.{now}
+use borrow.Author.Needs.{sfits-of, needs}
+use Rattle.terms.proofs.Cells.{fill-more}
+use Rattle.values.specs.Prepared.{numberAt}
+use Rattle.values.proofs.vetted.prepared.numbers.Statement.{statement}
+use Rattle.values.proofs.vetted.prepared.numbers.Tie as tie
+
+abbrev Inv-loop : tie.InvT-loop
+Inv-loop table a₀ i₀ a i = (i ≤ 256) × (length a ≡ 256) × ((j : ℕ) → j < i → getD a j (pos 0) ≡ numberAt table j)
+
+abbrev μ-loop : tie.MeasureT-loop
+μ-loop table a₀ i₀ a i = 256 - i
+
+loop-holds : tie.Need-loop-holds Inv-loop μ-loop
+loop-holds c = (search needs, refl, λ j l. absurd (not-suc-le-zero l))
+
+number-at-requires : tie.Need-number-at-requires Inv-loop μ-loop
+number-at-requires c κs = search needs
+
+mul-a : tie.Need-mul-a Inv-loop μ-loop
+mul-a c = search needs
+
+array-set-from-a : tie.Need-array-set-from-a Inv-loop μ-loop
+array-set-from-a c = search needs
+
+add-i : tie.Need-add-i Inv-loop μ-loop
+add-i c = search needs
+
+loop-less : tie.Need-loop-less Inv-loop μ-loop
+loop-less c = search needs
+
+loop-again : tie.Need-loop-again Inv-loop μ-loop
+loop-again c =
+    let l = c .before .before in
+    let a = l .before .before .args in
+    let w : l .loop .i < length (l .loop .a) = omega (arith, l .loop .inv .1) in (
+      search needs,
+      simp length-set (l .loop .inv .1),
+      fill-more (pos 0) (λ (j : ℕ) (y : ℤ). y ≡ numberAt (now (a .table)) j) (l .loop .a) (l .loop .i) (toZ w32 (ofZ w32 (c .number-at .result))) w (l .loop .inv .2)
+          (toZ-ofZ (sfits-of (c .number-at .ok)) ∙ c .number-at .ensures),
+    )
+
+returns : tie.Need-returns Inv-loop μ-loop
+returns c =
+    let l = c .before in
+    record { each = λ i h. l .loop .inv .2 i (omega arith) }
+
+pub numbers-spec : {M : Type 1} → statement M
+numbers-spec =
+    tie.close
+    (tie.spec
+    Inv-loop
+    μ-loop
+    loop-holds
+    number-at-requires
+    mul-a
+    array-set-from-a
+    add-i
+    loop-less
+    loop-again
+    returns)

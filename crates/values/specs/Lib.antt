@@ -1,0 +1,2 @@
+-- What is prepared of a table's values, and what is looked up in it.
+pub mod Prepared
