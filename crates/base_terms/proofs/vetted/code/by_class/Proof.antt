@@ -1,0 +1,15 @@
+-- `base_terms::vetted::code::by_class` meets its contract. Assumes nothing.
+use borrow.Author.Needs.{needs}
+use Rattle.base_terms.specs.ValueCode.{rankCode}
+use Rattle.base_terms.proofs.vetted.code.by_class.Statement.{statement}
+use Rattle.base_terms.proofs.vetted.code.by_class.Tie as tie
+
+apart-code-requires : tie.Need-apart-code-requires
+apart-code-requires c κs = search needs
+
+returns : tie.Need-returns
+unfolding rankCode
+returns c = c .apart-code .ensures
+
+pub by-class-spec : {M : Type 1} → statement M
+by-class-spec = tie.close (tie.spec apart-code-requires returns)
