@@ -49,6 +49,14 @@ pub mod Probes
 pub mod Farthest
 pub mod Unnamed
 pub mod Marks
+pub mod Extremes
+pub mod ExtremesOfNumbers
+pub mod ExtremesOfDistances
+pub mod ExtremesOfRoles
+pub mod ExtremesOfPosNeg
+pub mod ExtremesOfPosPos
+pub mod ExtremesOfEdges
+pub mod ExtremesOfBase
 -- What acceptance gives.
 pub mod Terms
 pub mod Runs
@@ -62,6 +70,7 @@ pub mod AcceptedValues
 pub mod AcceptedKinds
 pub mod AcceptedTerms
 pub mod AcceptedNumbers
+pub mod AcceptedMarks
 pub mod Taken
 pub mod Replied
 pub mod Answered

@@ -10,17 +10,13 @@ ghost use lib.Bits.{bitOr};
 ghost use lib.IntN.{ℤ};
 ghost use lib.Dec.{eqb};
 ghost use lib.ListN.{length, getD};
-ghost use Rattle.model.specs.declared.{Refusal.Refusal, Outcome.Outcome, Verdict.Verdict};
-ghost use Rattle.model.specs.declared.{CompareReply.CompareReply, QueryReply.QueryReply};
+ghost use Rattle.model.specs.declared.{Refusal.Refusal, Verdict.Verdict, QueryReply.QueryReply};
 ghost use Rattle.model.specs.Search.{anyBelow, countBelow};
 ghost use Rattle.model.specs.Record.{recordCount, recordAt, kindAt, pAt, qAt, isTerm};
 ghost use Rattle.model.specs.Term.{termAt, columnsOf};
-ghost use Rattle.model.specs.Better.{Row};
-ghost use Rattle.model.specs.Compare.{compareReply};
 ghost use Rattle.model.specs.Query.{Unbeaten, LowestKept, rowCount, beatsIn};
 ghost use Rattle.model.specs.Query.{queryVerdict, queryReply, queryBuffer};
-ghost use Rattle.model.specs.Demand.{accepted, leftFirst, rightFirst, equally, keeps, keepsAmong};
-ghost use Rattle.laws.specs.Outcome.{turned};
+ghost use Rattle.model.specs.Demand.{leftFirst, rightFirst, equally, keeps, keepsAmong};
 ghost use Rattle.laws.specs.Taken.{Taken};
 
 // ---- the second signed sentence
@@ -70,21 +66,7 @@ pub fn refusal_writes_nothing()
         → queryBuffer table columns rows term group before ≡ before) ⌝ }
 {}
 
-// ---- the third signed sentence
-
-// "x against x gives same. Where x, y gives first better, y, x gives second better, and the other way about; same and
-// unranked don't change when the rows change places. Where x, y and y, z give first better, so does x, z."
-pub fn replies_strictly()
-    ensures { λ _. ⌜ ((table : List ℕ) (columns term : ℕ)
-        → accepted table columns ≡ true → term < recordCount table → isTerm (recordAt table term) ≡ true → (x y z : Row)
-        → length x ≡ columns → length y ≡ columns → length z ≡ columns
-        → (compareReply table columns term x x ≡ CompareReply.Compared Outcome.Same)
-        × ((o : Outcome) → compareReply table columns term x y ≡ CompareReply.Compared o
-        → compareReply table columns term y x ≡ CompareReply.Compared (turned o))
-        × (compareReply table columns term x y ≡ CompareReply.Compared Outcome.First
-        → compareReply table columns term y z ≡ CompareReply.Compared Outcome.First
-        → compareReply table columns term x z ≡ CompareReply.Compared Outcome.First)) ⌝ }
-{}
+// ---- the third signed sentence; what it says of Compare stands in crate `demands`
 
 // "Of two parts, one placed before the other keeps a row exactly when the first keeps it and the second keeps it among the
 // rows of the set that equal it in the first's columns": the left first, and the right first.

@@ -1,0 +1,2 @@
+-- The mark of a base term.
+pub mod Base
