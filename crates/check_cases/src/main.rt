@@ -1,11 +1,9 @@
 // Runs the check on the cases of the file stdin, a line for each. The file stdout has the answers, written by hand from
-// document 01. A case is its words, the column count (and the length in bytes where it is not that of the records), and
-// the records: kind, p, q, s, u, v, where fields left out at the end are 0. u and v are 32-bit words: -1 is 4294967295.
-mod read;
-mod say;
-mod write;
-
-use read::Reading;
+// document 01. The head of a case is the column count, and the length in bytes where it is not that of the records.
+use case_lines::read;
+use case_lines::say;
+use model::CheckReply;
+use model::Summary;
 
 fn main() {
     let mut text = io::large_buffer();
@@ -14,41 +12,45 @@ fn main() {
 }
 
 fn cases(text: &[u8]) {
-    let mut table = [0u8; 1560];
-    let t: &mut [u8] = &mut table;
-    let mut state = Reading::new();
-    let mut i = 0;
-    while i < text.len() {
-        let b = text[i];
-        turn(state, t, b);
-        let next = read::step(state, b);
-        state = next;
-        i += 1;
+    let mut at = 0;
+    while at < text.len() {
+        let end = read::after(text, at, b'\n');
+        if end <= at {
+            return;
+        }
+        case(text, at);
+        at = end;
     }
 }
 
-// What a byte of the file has done: words are repeated, a number goes to its place, the end of a case runs it.
-fn turn(s: Reading, t: &mut [u8], b: u8) {
-    speak(s, b);
-    fill(s, t, b);
-    finish(s, t, b);
+// The head of a case of the check has no rows after it: it stands in the cells of the rows.
+fn case(text: &[u8], at: usize) {
+    let head = say::words(text, at);
+    let mut cells = [0u64; 2304];
+    let last = read::cells(text, head, 128, &mut cells);
+    answer(&cells[0..2304], last);
+    say::text(b"\n");
 }
 
-fn speak(s: Reading, b: u8) {
-    if read::is_word(s, b) {
-        say::byte(b);
+fn answer(cells: &[u64], last: usize) {
+    let mut t = [0u8; 1560];
+    read::table(cells, &mut t);
+    let n = read::length(cells, 130, last);
+    if n <= 1560 {
+        reply(table::check(&t[0..n], read::number(cells, 129) as usize));
     }
 }
 
-fn fill(s: Reading, t: &mut [u8], b: u8) {
-    if read::ends_field(s, b) {
-        write::field(t, s.record, s.field, s.number);
+fn reply(given: CheckReply) {
+    match given {
+        CheckReply::Accepted(s) => accepted(s),
+        CheckReply::Refused(why) => say::refused(why),
     }
 }
 
-fn finish(s: Reading, t: &mut [u8], b: u8) {
-    if b == b'\n' {
-        say::answer(t, read::length(s), s.columns);
-        write::clear(t);
-    }
+fn accepted(s: Summary) {
+    say::numbered(b"accepted records ", s.records as u64);
+    say::numbered(b" top ", s.top as u64);
+    say::numbered(b" columns ", s.columns as u64);
+    say::numbered(b" count ", s.count as u64);
 }

@@ -1,16 +1,28 @@
 // The C interface (bindings/c/finialbasil.h): one export for each public call, one converter for each reply. A reply
 // holds what document 01 lists for it; no export has a `requires`.
 ghost use mathlib.Core.Path.{_≡_};
-ghost use Rattle.model.specs.Replies.{listed, listedCheck};
+ghost use Rattle.model.specs.Replies.{listed, listedCheck, outcomeNumber, listedCompare, markNumber, listedPerfect};
 ghost use Rattle.model.specs.Check.{checkReply};
-ghost use Rattle.finialbasil.specs.Layout.{placeNumber, checkFields};
+ghost use Rattle.model.specs.Compare.{compareReply};
+ghost use Rattle.model.specs.Perfect.{perfectReply};
+ghost use Rattle.finialbasil.specs.Layout.{placeNumber, checkFields, replyFields, givenFields};
 use model::CheckReply;
+use model::CompareReply;
+use model::Mark;
+use model::Outcome;
+use model::PerfectReply;
+use model::Place;
 use model::Refusal;
+use refusals::number;
+use refusals::place;
+
+// What `refusal` holds where nothing is refused.
+const ACCEPTED: u32 = 0;
 
 // What `place` holds where a refusal gives none.
 const NO_PLACE: u32 = 0xffff_ffff;
 
-// `refusal` 0 is an accepted table; on a refusal the fields after `place` are 0.
+// On a refusal the fields after `place` are 0.
 #[repr(C)]
 pub struct FnbCheckReply {
     pub refusal: u32,
@@ -21,6 +33,14 @@ pub struct FnbCheckReply {
     pub column_count: u32,
 }
 
+// What every other call replies; on a refusal `value` is 0.
+#[repr(C)]
+pub struct FnbReply {
+    pub refusal: u32,
+    pub place: u32,
+    pub value: u32,
+}
+
 // Check: table and column count.
 #[no_mangle]
 pub extern "C" fn fnb_check(table: &[u8], columns: usize) -> FnbCheckReply
@@ -29,12 +49,34 @@ pub extern "C" fn fnb_check(table: &[u8], columns: usize) -> FnbCheckReply
     check_fields(table::check(table, columns))
 }
 
+// Compare: also a term's record number and two rows. Same 0, first better 1, second better 2, unranked 3.
+#[no_mangle]
+pub extern "C" fn fnb_compare(
+    table: &[u8],
+    columns: usize,
+    term: usize,
+    first: &[i32],
+    second: &[i32],
+) -> FnbReply
+    ensures { λ r. ⌜ r ≡ replyFields (listedCompare (compareReply (now (table .entry)) columns term (now (first .entry)) (now (second .entry)))) ⌝ }
+{
+    compare_fields(compare::compare(table, columns, term, first, second))
+}
+
+// Perfect: also a term's record number and one row. Not perfect 0, perfect 1.
+#[no_mangle]
+pub extern "C" fn fnb_perfect(table: &[u8], columns: usize, term: usize, row: &[i32]) -> FnbReply
+    ensures { λ r. ⌜ r ≡ replyFields (listedPerfect (perfectReply (now (table .entry)) columns term (now (row .entry)))) ⌝ }
+{
+    perfect_fields(perfect::perfect(table, columns, term, row))
+}
+
 fn check_fields(reply: CheckReply) -> FnbCheckReply
     ensures { λ r. ⌜ r ≡ checkFields (listedCheck reply) ⌝ }
 {
     match reply {
         CheckReply::Accepted(s) => FnbCheckReply {
-            refusal: 0,
+            refusal: ACCEPTED,
             place: NO_PLACE,
             records: s.records as u32,
             top: s.top as u32,
@@ -43,7 +85,7 @@ fn check_fields(reply: CheckReply) -> FnbCheckReply
         },
         CheckReply::Refused(why) => FnbCheckReply {
             refusal: number(why),
-            place: place(why),
+            place: place_number(place(why)),
             records: 0,
             top: 0,
             columns: 0,
@@ -52,54 +94,70 @@ fn check_fields(reply: CheckReply) -> FnbCheckReply
     }
 }
 
-// The refusal's number in document 01's table.
-fn number(why: Refusal) -> u32
-    ensures { λ r. ⌜ r ≡ listed why .number ⌝ }
+fn compare_fields(reply: CompareReply) -> FnbReply
+    ensures { λ r. ⌜ r ≡ replyFields (listedCompare reply) ⌝ }
 {
-    match why {
-        Refusal::Width => 1,
-        Refusal::Length => 2,
-        Refusal::Kind(_) => 3,
-        Refusal::Filler(_) => 4,
-        Refusal::Column(_) => 5,
-        Refusal::Part(_) => 6,
-        Refusal::Reused(_) => 7,
-        Refusal::Stray(_) => 8,
-        Refusal::Crowd(_) => 9,
-        Refusal::Clash(_) => 10,
-        Refusal::Loop(_) => 11,
-        Refusal::Bounds(_) => 12,
-        Refusal::Apart(_) => 13,
-        Refusal::Loose(_) => 14,
-        Refusal::Rows => 15,
-        Refusal::Term => 16,
-        Refusal::Group => 17,
-        Refusal::Short => 18,
+    match reply {
+        CompareReply::Compared(o) => given(outcome_number(o)),
+        CompareReply::Refused(why) => refused(why),
     }
 }
 
-// The record that the refusal names: 3 to 14 give one.
-fn place(why: Refusal) -> u32
-    ensures { λ r. ⌜ r ≡ placeNumber (listed why .place) ⌝ }
+fn perfect_fields(reply: PerfectReply) -> FnbReply
+    ensures { λ r. ⌜ r ≡ replyFields (listedPerfect reply) ⌝ }
 {
-    match why {
-        Refusal::Width => NO_PLACE,
-        Refusal::Length => NO_PLACE,
-        Refusal::Kind(k) => k as u32,
-        Refusal::Filler(k) => k as u32,
-        Refusal::Column(k) => k as u32,
-        Refusal::Part(k) => k as u32,
-        Refusal::Reused(k) => k as u32,
-        Refusal::Stray(k) => k as u32,
-        Refusal::Crowd(k) => k as u32,
-        Refusal::Clash(k) => k as u32,
-        Refusal::Loop(k) => k as u32,
-        Refusal::Bounds(k) => k as u32,
-        Refusal::Apart(k) => k as u32,
-        Refusal::Loose(k) => k as u32,
-        Refusal::Rows => NO_PLACE,
-        Refusal::Term => NO_PLACE,
-        Refusal::Group => NO_PLACE,
-        Refusal::Short => NO_PLACE,
+    match reply {
+        PerfectReply::Marked(m) => given(mark_number(m)),
+        PerfectReply::Refused(why) => refused(why),
+    }
+}
+
+fn given(value: u32) -> FnbReply
+    ensures { λ r. ⌜ r ≡ givenFields value ⌝ }
+{
+    FnbReply {
+        refusal: ACCEPTED,
+        place: NO_PLACE,
+        value,
+    }
+}
+
+fn refused(why: Refusal) -> FnbReply
+    ensures { λ r. ⌜ r ≡ replyFields (listed why) ⌝ }
+{
+    FnbReply {
+        refusal: number(why),
+        place: place_number(place(why)),
+        value: 0,
+    }
+}
+
+fn outcome_number(o: Outcome) -> u32
+    ensures { λ r. ⌜ r ≡ outcomeNumber o ⌝ }
+{
+    match o {
+        Outcome::Same => 0,
+        Outcome::First => 1,
+        Outcome::Second => 2,
+        Outcome::Unranked => 3,
+    }
+}
+
+fn mark_number(m: Mark) -> u32
+    ensures { λ r. ⌜ r ≡ markNumber m ⌝ }
+{
+    match m {
+        Mark::No => 0,
+        Mark::Yes => 1,
+    }
+}
+
+// The record that a refusal names, as a number.
+fn place_number(place: Place) -> u32
+    ensures { λ r. ⌜ r ≡ placeNumber place ⌝ }
+{
+    match place {
+        Place::Nowhere => NO_PLACE,
+        Place::At(k) => k as u32,
     }
 }

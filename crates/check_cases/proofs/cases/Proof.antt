@@ -1,4 +1,4 @@
--- `check_cases::cases` is safe and ends: each turn takes one byte of the text. Assumes nothing.
+-- `check_cases::cases` is safe and ends: each turn goes on in the text. Assumes nothing.
 use Prim.Native.Nat.{_≤_, _-_}
 use lib.ListN.{length}
 use borrow.Author.Needs.{needs}
@@ -6,31 +6,22 @@ use Rattle.check_cases.proofs.cases.Statement.{statement}
 use Rattle.check_cases.proofs.cases.Tie as tie
 
 abbrev Inv-loop : tie.InvT-loop
-Inv-loop text t₀ state₀ i₀ t state i = i ≤ length text
+Inv-loop text at₀ at = at₀ ≤ at
 
 abbrev μ-loop : tie.MeasureT-loop
-μ-loop text t₀ state₀ i₀ t state i = length text - i
-
-slice-aggregate-t : tie.Need-slice-aggregate-t Inv-loop μ-loop
-slice-aggregate-t c = search needs
-
-new-requires : tie.Need-new-requires Inv-loop μ-loop
-new-requires c κs = search needs
+μ-loop text at₀ at = length text - at
 
 loop-holds : tie.Need-loop-holds Inv-loop μ-loop
 loop-holds c = search needs
 
-shared-slice-read-b : tie.Need-shared-slice-read-b Inv-loop μ-loop
-shared-slice-read-b c = search needs
+after-requires : tie.Need-after-requires Inv-loop μ-loop
+after-requires c κs = search needs
 
-turn-requires : tie.Need-turn-requires Inv-loop μ-loop
-turn-requires c κs = search needs
+returns : tie.Need-returns Inv-loop μ-loop
+returns c = search needs
 
-step-requires : tie.Need-step-requires Inv-loop μ-loop
-step-requires c κs = search needs
-
-add-i : tie.Need-add-i Inv-loop μ-loop
-add-i c = search needs
+case-requires : tie.Need-case-requires Inv-loop μ-loop
+case-requires c κs = search needs
 
 loop-less : tie.Need-loop-less Inv-loop μ-loop
 loop-less c = search needs
@@ -38,8 +29,8 @@ loop-less c = search needs
 loop-again : tie.Need-loop-again Inv-loop μ-loop
 loop-again c = search needs
 
-returns : tie.Need-returns Inv-loop μ-loop
-returns c = search needs
+returns-2 : tie.Need-returns-2 Inv-loop μ-loop
+returns-2 c = search needs
 
 pub cases-spec : {M : Type 1} → statement M
 cases-spec =
@@ -47,13 +38,10 @@ cases-spec =
     (tie.spec
     Inv-loop
     μ-loop
-    slice-aggregate-t
-    new-requires
     loop-holds
-    shared-slice-read-b
-    turn-requires
-    step-requires
-    add-i
+    after-requires
+    returns
+    case-requires
     loop-less
     loop-again
-    returns)
+    returns-2)

@@ -1,7 +1,7 @@
 -- `finialbasil::check_fields` meets its contract: each arm lays out a case of `listedCheck`. Assumes nothing.
 use borrow.Author.Needs.{needs}
 use Rattle.finialbasil.specs.Layout.{checkFields}
-use Rattle.finialbasil.proofs.Refused.{no-values}
+use Rattle.finialbasil.proofs.NoValues.{no-values}
 use Rattle.finialbasil.proofs.check_fields.Statement.{statement}
 use Rattle.finialbasil.proofs.check_fields.Tie as tie
 
@@ -26,6 +26,9 @@ number-requires c κs = search needs
 place-requires : tie.Need-place-requires
 place-requires c κs = search needs
 
+place-number-requires : tie.Need-place-number-requires
+place-number-requires c κs = search needs
+
 returns : tie.Need-returns
 unfolding checkFields
 returns c = simp (c .before .before .before .before .reply .given .1)
@@ -33,7 +36,14 @@ returns c = simp (c .before .before .before .before .reply .given .1)
 returns-2 : tie.Need-returns-2
 unfolding checkFields
 returns-2 c =
-    simp (c .before .before .before .reply2 .given .1, c .place .ensures, c .before .number .ensures, no-values)
+    let p = c .before in
+    simp (
+      p .before .before .before .reply2 .given .1,
+      c .place-number .ensures,
+      p .place .ensures,
+      p .before .number .ensures,
+      no-values,
+    )
 
 pub check-fields-spec : {M : Type 1} → statement M
 check-fields-spec =
@@ -46,5 +56,6 @@ check-fields-spec =
     enum-known-reply-2
     number-requires
     place-requires
+    place-number-requires
     returns
     returns-2)
