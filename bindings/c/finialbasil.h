@@ -37,9 +37,11 @@
  *   12 BOUNDS   BETWEEN with low above up
  *   13 APART    BOTH of parts that read different columns
  *   14 LOOSE    a term other than the last that is no part
+ *   15 ROWS     a row not of the count's length                                                 no place
+ *   16 TERM     number given is not a term record                                               no place
  *
- * Order: 1, 2, then records from 0 upward, each judged for 3 to 13 in number order, then 14 (lowest such record). The
- * first refusal in this order is the reply.
+ * Order: 1, 2, then records from 0 upward, each judged for 3 to 13 in number order, then 14 (lowest such record), then
+ * 15, then 16. The first refusal in this order is the reply.
  *
  * What every call asks of its caller:
  *   - A length counts elements, and that many elements may be read behind the pointer.
@@ -85,6 +87,18 @@ extern "C" {
 #define FNB_BOUNDS 12u
 #define FNB_APART 13u
 #define FNB_LOOSE 14u
+#define FNB_ROWS 15u
+#define FNB_TERM 16u
+
+/* How two rows compare. */
+#define FNB_SAME 0u          /* equal in the term's columns */
+#define FNB_FIRST_BETTER 1u  /* the first row is better */
+#define FNB_SECOND_BETTER 2u /* the second row is better */
+#define FNB_UNRANKED 3u      /* neither is better, and they are not the same */
+
+/* Whether a row is perfect. */
+#define FNB_NOT_PERFECT 0u
+#define FNB_PERFECT 1u
 
 /* What the check gives. On a refusal the fields after `place` are 0. */
 typedef struct {
@@ -99,6 +113,27 @@ typedef struct {
 /* Check. Takes a table and the column count of the rows that it is for; any count may come, nothing of it is cut.
  * Gives number of records, top, columns read by the top and how many. Refuses 1 to 14. */
 fnb_check_reply fnb_check(const uint8_t *table, size_t table_len, size_t columns);
+
+/* What the other calls give. On a refusal `value` is 0. */
+typedef struct {
+    uint32_t refusal; /* 0: accepted; else 1 to 16 */
+    uint32_t place;   /* the record that is refused, or FNB_NO_PLACE */
+    uint32_t value;   /* what the call gives */
+} fnb_reply;
+
+/* Compare. Takes a table, the column count, a term's record number and two rows, a value for each column. Gives how the
+ * first row compares with the second: FNB_SAME, FNB_FIRST_BETTER, FNB_SECOND_BETTER or FNB_UNRANKED. Refuses 1 to 16.
+ * Rows compare strictly: no row is better than itself, outcomes turn round when the rows change places, and better than
+ * better is better. */
+fnb_reply fnb_compare(const uint8_t *table, size_t table_len, size_t columns, size_t term, const int32_t *first,
+                      size_t first_len, const int32_t *second, size_t second_len);
+
+/* Perfect. Takes a table, the column count, a term's record number and one row. Gives FNB_PERFECT when, in every base
+ * term beneath the asked term (itself if it is a base term), no 32-bit value is better than the row's, or, beneath an
+ * odd number of DUALs, counted from the asked term down and with it, none is worse; else FNB_NOT_PERFECT. Refuses 1 to
+ * 16. */
+fnb_reply fnb_perfect(const uint8_t *table, size_t table_len, size_t columns, size_t term, const int32_t *row,
+                      size_t row_len);
 
 #ifdef __cplusplus
 }
