@@ -18,6 +18,15 @@ role p = rec 0 p 0 (pos 1) (pos 0)
 abbrev strays : List ℕ → ℕ → Case
 strays term p = refuses (term ++ role p) 1 (placed 8 1) (Refusal.Stray 1)
 
+-- What a changed definition meets first.
+unfoldable pub stopped : List Case
+stopped =
+    -- AROUND with column 8 and v = 1: FILLER before COLUMN.
+    refuses (rec 3 8 0 (pos 0) (pos 1)) 8 (placed 4 0) (Refusal.Filler 0)
+    -- 129 records, all of kind 11: LENGTH before KIND.
+    ∷ refuses (copies 129 (rec 11 0 0 (pos 0) (pos 0))) 1 (unplaced 2) Refusal.Length
+    ∷ []
+
 unfoldable pub refused : List Case
 refused =
     -- 1 WIDTH: 0, 9 and 264 columns; 1 and 8 pass. WIDTH goes before LENGTH.
@@ -25,19 +34,16 @@ refused =
     ∷ refuses (lowest 0) 9 (unplaced 1) Refusal.Width
     ∷ refuses [] 264 (unplaced 1) Refusal.Width
     ∷ accepts (lowest 0) 8 1 0 1 1
-    -- 2 LENGTH: no bytes, a byte more or less than a record, 129 records. LENGTH goes before KIND: these have kind 11.
+    -- 2 LENGTH: no bytes, a byte more or less than a record. LENGTH goes before KIND: the last has kind 11.
     ∷ refuses [] 8 (unplaced 2) Refusal.Length
     ∷ refuses (lowest 0 ++ (0 ∷ [])) 1 (unplaced 2) Refusal.Length
     ∷ refuses (copies 11 (11 ∷ [])) 1 (unplaced 2) Refusal.Length
-    ∷ refuses (copies 129 (rec 11 0 0 (pos 0) (pos 0))) 1 (unplaced 2) Refusal.Length
     -- 3 KIND: 11, 15, 20 and 255.
     ∷ refuses (rec 11 0 0 (pos 0) (pos 0)) 1 (placed 3 0) (Refusal.Kind 0)
     ∷ refuses (lowest 0 ++ rec 15 0 0 (pos 0) (pos 0)) 1 (placed 3 1) (Refusal.Kind 1)
     ∷ refuses (rec 20 0 0 (pos 0) (pos 0)) 1 (placed 3 0) (Refusal.Kind 0)
     ∷ refuses (rec 255 9 9 (pos 9) (pos 9)) 1 (placed 3 0) (Refusal.Kind 0)
-    -- 4 FILLER stands in `fillers`. AROUND with column 8 and v = 1: FILLER before COLUMN. DUAL of itself with q: before
-    -- PART. An edge under POS with q: before STRAY.
-    ∷ refuses (rec 3 8 0 (pos 0) (pos 1)) 8 (placed 4 0) (Refusal.Filler 0)
+    -- 4 FILLER stands in `fillers`. DUAL of itself with q: before PART. An edge under POS with q: before STRAY.
     ∷ refuses (rec 19 0 1 (pos 0) (pos 0)) 1 (placed 4 0) (Refusal.Filler 0)
     ∷ refuses (pos-set 0 ++ rec 0 4 1 (pos 1) (pos 2)) 1 (placed 4 1) (Refusal.Filler 1)
     -- 5 COLUMN: column 3 of three; column 2 passes. BETWEEN with low above up too: COLUMN before BOUNDS.
