@@ -14,28 +14,28 @@ fn main() {
 fn cases(text: &[u8]) {
     let mut at = 0;
     while at < text.len() {
-        let end = read::after(text, at, b'\n');
+        let end = case(text, at);
         if end <= at {
             return;
         }
-        case(text, at);
         at = end;
     }
 }
 
 // The head of a case of the check has no rows after it: it stands in the cells of the rows.
-fn case(text: &[u8], at: usize) {
-    let head = say::words(text, at);
-    let mut cells = [0u64; 2304];
-    let last = read::cells(text, head, 128, &mut cells);
-    answer(&cells[0..2304], last);
+fn case(text: &[u8], at: usize) -> usize {
+    let mut cells = [0u64; 4096];
+    cells[0] = 128;
+    let end = read::cells(text, say::words(text, at), &mut cells);
+    answer(&cells);
     say::text(b"\n");
+    end
 }
 
-fn answer(cells: &[u64], last: usize) {
+fn answer(cells: &[u64; 4096]) {
     let mut t = [0u8; 1560];
     read::table(cells, &mut t);
-    let n = read::length(cells, 130, last);
+    let n = read::length(cells, 130);
     if n <= 1560 {
         reply(table::check(&t[0..n], read::number(cells, 129) as usize));
     }
@@ -49,8 +49,9 @@ fn reply(given: CheckReply) {
 }
 
 fn accepted(s: Summary) {
-    say::numbered(b"accepted records ", s.records as u64);
-    say::numbered(b" top ", s.top as u64);
-    say::numbered(b" columns ", s.columns as u64);
-    say::numbered(b" count ", s.count as u64);
+    let words = b"accepted records : top : columns : count :";
+    let top = say::numbered(words, 0, s.records as u64);
+    let columns = say::numbered(words, top, s.top as u64);
+    let count = say::numbered(words, columns, s.columns as u64);
+    say::numbered(words, count, s.count as u64);
 }

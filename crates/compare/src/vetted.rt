@@ -1,2 +1,21 @@
-// Inner functions that other crates call. They are no public calls: each asks what the check has shown before.
-pub mod rows;
+// The comparison that rests on a table that the check has accepted.
+use model::Outcome;
+use outcomes::vetted::rows::compare_rows;
+use values::vetted::prepared::closures;
+use values::vetted::prepared::numbers;
+use values::vetted::prepared::run_ends;
+ghost use mathlib.Core.Path.{_≡_};
+ghost use Rattle.model.specs.Term.{termAt};
+ghost use Rattle.model.specs.Compare.{outcome};
+ghost use Rattle.outcomes.specs.Rows.{Asked};
+
+// The outcome, with what an accepted table's values are prepared for.
+pub fn compared(table: &[u8], term: u8, first: &[i32], second: &[i32]) -> Outcome
+    requires { ⌜ Asked (now table) term (now first) (now second) ⌝ }
+    ensures { λ r. ⌜ r ≡ outcome (termAt (now (table .entry)) term) (now (first .entry)) (now (second .entry)) ⌝ }
+{
+    let a = numbers(table);
+    let e = run_ends(table);
+    let g = closures(table, &e);
+    compare_rows(table, &a, &e, &g, term, first, second)
+}

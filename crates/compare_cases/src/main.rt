@@ -21,33 +21,33 @@ fn buffer() -> [u8; 131072] {
 fn cases(text: &[u8]) {
     let mut at = 0;
     while at < text.len() {
-        let end = read::after(text, at, b'\n');
+        let end = case(text, at);
         if end <= at {
             return;
         }
-        case(text, at);
         at = end;
     }
 }
 
-fn case(text: &[u8], at: usize) {
-    let head = say::words(text, at);
-    let mut cells = [0u64; 2304];
-    let last = read::cells(text, head, 64, &mut cells);
-    answer(&cells[0..2304], last);
+fn case(text: &[u8], at: usize) -> usize {
+    let mut cells = [0u64; 4096];
+    cells[0] = 64;
+    let end = read::cells(text, say::words(text, at), &mut cells);
+    answer(&cells);
     say::text(b"\n");
+    end
 }
 
-fn answer(cells: &[u64], last: usize) {
+fn answer(cells: &[u64; 4096]) {
     let mut bytes = [0u8; 1560];
     read::table(cells, &mut bytes);
-    let n = read::length(cells, 68, last);
+    let n = read::length(cells, 68);
     if n <= 1560 {
         rows(cells, &bytes[0..n]);
     }
 }
 
-fn rows(cells: &[u64], table: &[u8]) {
+fn rows(cells: &[u64; 4096], table: &[u8]) {
     let mut a = [0i32; 15];
     let n = read::row(cells, 129, &mut a);
     let mut b = [0i32; 15];
@@ -60,7 +60,7 @@ fn rows(cells: &[u64], table: &[u8]) {
 }
 
 // Of the two names, perfect ends in t.
-fn call(cells: &[u64], table: &[u8], first: &[i32], second: &[i32]) {
+fn call(cells: &[u64; 4096], table: &[u8], first: &[i32], second: &[i32]) {
     let columns = read::number(cells, 66) as usize;
     let term = read::number(cells, 67) as usize;
     if read::number(cells, 65) == b't' as u64 {
@@ -72,30 +72,38 @@ fn call(cells: &[u64], table: &[u8], first: &[i32], second: &[i32]) {
 
 fn compared(given: CompareReply) {
     match given {
-        CompareReply::Compared(o) => outcome(o),
+        CompareReply::Compared(o) => said(outcome(o)),
         CompareReply::Refused(why) => say::refused(why),
-    }
-}
-
-fn outcome(o: Outcome) {
-    match o {
-        Outcome::Same => say::text(b"same"),
-        Outcome::First => say::text(b"first better"),
-        Outcome::Second => say::text(b"second better"),
-        Outcome::Unranked => say::text(b"unranked"),
     }
 }
 
 fn marked(given: PerfectReply) {
     match given {
-        PerfectReply::Marked(m) => mark(m),
+        PerfectReply::Marked(m) => said(mark(m)),
         PerfectReply::Refused(why) => say::refused(why),
     }
 }
 
-fn mark(m: Mark) {
-    match m {
-        Mark::Yes => say::text(b"perfect"),
-        Mark::No => say::text(b"not perfect"),
+// Where the answer stands in the words below.
+fn outcome(o: Outcome) -> usize {
+    match o {
+        Outcome::Same => 0,
+        Outcome::First => 5,
+        Outcome::Second => 18,
+        Outcome::Unranked => 32,
     }
+}
+
+fn mark(m: Mark) -> usize {
+    match m {
+        Mark::Yes => 45,
+        Mark::No => 41,
+    }
+}
+
+fn said(from: usize) {
+    say::until(
+        b"same:first better:second better:unranked:not perfect:",
+        from,
+    );
 }

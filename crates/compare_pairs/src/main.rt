@@ -2,6 +2,7 @@
 // Prints how many pairs gave each outcome. `bench/compare` times it.
 mod vetted;
 
+use case_lines::say;
 use vetted::Counts;
 use vetted::pairs;
 
@@ -75,7 +76,7 @@ const CELLS: [i32; 16] = [-8, -7, -6, -5, -4, -3, -2, -1, 0, 1, 2, 3, 4, 5, 6, 7
 fn main() {
     let rows = random_rows();
     let table = T1;
-    say(pairs(&table, &rows));
+    print(pairs(&table, &rows));
 }
 
 // 1,000 rows of three cells that look random: x becomes 1103515245 x + 12345, modulo 2^31, and its bits 16 to 19 count.
@@ -103,15 +104,11 @@ fn cell(x: u32) -> i32 {
     CELLS[i]
 }
 
-fn say(c: Counts) {
-    line(b"same ", c.same);
-    line(b"first better ", c.first);
-    line(b"second better ", c.second);
-    line(b"unranked ", c.unranked);
-}
-
-fn line(words: &[u8], n: u64) {
-    io::write_all(1, words);
-    io::print_decimal(1, n);
-    io::write_all(1, b"\n");
+fn print(c: Counts) {
+    let words = b"same :\nfirst better :\nsecond better :\nunranked :\n:";
+    let first = say::numbered(words, 0, c.same);
+    let second = say::numbered(words, first, c.first);
+    let unranked = say::numbered(words, second, c.second);
+    let end = say::numbered(words, unranked, c.unranked);
+    say::until(words, end);
 }

@@ -1,8 +1,8 @@
 // Pairs of rows of three columns, compared over what is prepared of an accepted table.
 use asked::vetted::term_verdict;
-use compare::vetted::rows::compare_rows;
 use model::Outcome;
 use model::Verdict;
+use outcomes::vetted::rows::compare_rows;
 use values::vetted::prepared::closures;
 use values::vetted::prepared::numbers;
 use values::vetted::prepared::run_ends;

@@ -127,6 +127,10 @@ module _ (table : List ℕ) (k : ℕ) where
 
 -- ---- 32 bits
 
+-- Every byte is below 256, so that every word is below 2 ^ 32.
+abbrev pub Bytes : List ℕ → Type 0
+Bytes table = (i : ℕ) → byteAt table i < 256
+
 -- Four bytes are 32 bits.
 pub word-small : (table : List ℕ) → ((i : ℕ) → byteAt table i < 256) → (at : ℕ) → wordAt table at < 4294967296
 unfolding wordAt

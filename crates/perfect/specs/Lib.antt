@@ -1,3 +1,2 @@
--- What a reply of Perfect says; and, for the code, the marks of a table's terms.
+-- What a reply of Perfect says.
 pub mod Says
-pub mod Marks

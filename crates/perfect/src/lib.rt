@@ -1,11 +1,9 @@
 // The perfect-match mark of a row (document 01, "Perfect").
-pub mod vetted;
-
 use asked::vetted::term_verdict;
+use marks::vetted::is_perfect;
 use model::Mark;
 use model::PerfectReply;
 use model::Verdict;
-use vetted::marks::is_perfect;
 ghost use mathlib.Core.Path.{_≡_};
 ghost use Rattle.model.specs.Perfect.{markOf, perfectReply};
 ghost use Rattle.perfect.specs.Says.{Says};

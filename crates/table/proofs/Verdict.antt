@@ -19,10 +19,10 @@ use Rattle.laws.specs.Accepted.{Accepted, accepted-gives}
 use Rattle.laws.specs.AcceptedTable.{accepted-table}
 use Rattle.laws.specs.Terms.{terms-below}
 use Rattle.rules.specs.Rules.{looseIn}
-use Rattle.terms.specs.Columns.{maskBelow}
-use Rattle.terms.proofs.MaskLoop.{masks-columns}
-use Rattle.table.specs.Judging.{Summed}
-use Rattle.table.proofs.Judging.{column-more}
+use Rattle.columns.specs.Columns.{maskBelow}
+use Rattle.columns.proofs.MaskLoop.{masks-columns}
+use Rattle.judging.proofs.Judging.{column-more}
+use Rattle.table.specs.Verdict.{Summed}
 
 pub width-ok : (columns : ℕ) → failsWidth columns ≡ false → columns ≤ 8
 unfolding failsWidth

@@ -1,34 +1,24 @@
--- Arrays that a loop fills from the front, and the closure of one edge more. Assumes nothing.
-use mathlib.Core.Path.{_≡_, sym, _∙_, ap, subst}
+-- The closure of no edge, and of one edge more. Assumes nothing.
+use mathlib.Core.Path.{_≡_, sym, _∙_, ap}
 use mathlib.Core.Logic.{⊎-elim}
 use mathlib.Core.Bool.{Bool, false}
 use mathlib.Core.List.{List, [], _∷_}
 use Prim.Native.Nat.{ℕ, _+_, _-_, _*_, _/_, _%_, _<_, _≤_}
-use native.Mathlib.Nat.{eq-or-lt-of-le, le-of-suc-le-suc, lt-irrefl}
 use native.Mathlib.Numerals.{add-one}
 use native.Mathlib.Omega.{arith}
 use lib.Dec.{eqb}
 use lib.IntN.{ℤ}
-use lib.ListN.{length, getD, set, replicate, getD-replicate}
-use lib.Seq.{getD-set-same, getD-set-other}
+use lib.ListN.{getD, replicate, getD-replicate}
 use Rattle.model.specs.declared.Record.{Record}
-use Rattle.model.specs.Bytes.{byteAt, signed, eqZ}
+use Rattle.model.specs.Bytes.{signed, eqZ}
 use Rattle.model.specs.Record.{uAt, vAt, recordAt}
 use Rattle.model.specs.Better.{reaches}
 use Rattle.laws.specs.Bools.{on-or-off}
-use Rattle.laws.specs.Records.{word-small}
+use Rattle.laws.specs.Records.{Bytes, word-small}
 use Rattle.laws.specs.Runs.{valuesBetween, between-none, between-more}
 use Rattle.records.specs.Fields.{uWord, vWord, valueAt}
 use Rattle.records.proofs.Signed.{eq-signed}
 use Rattle.terms.specs.Closure.{endWord, cellAt, cellWith, Closure}
-
--- What holds of each element below i, and of v at i, holds below i + 1 after v is stored at i.
-pub fill-more : {A : Type 0} (d : A) (P : ℕ → A → Type 0) (l : List A) (i : ℕ) (v : A) → i < length l
-    → ((b : ℕ) → b < i → P b (getD l b d)) → P i v → (b : ℕ) → b < i + 1 → P b (getD (set l i v) b d)
-fill-more d P l i v w h p b lt =
-    ⊎-elim (λ q. subst (λ (m : ℕ). P m (getD (set l i v) m d)) (sym q) (subst (P i) (sym (getD-set-same l i v d w)) p))
-    (λ q. subst (P b) (sym (getD-set-other l i b v d (λ e. lt-irrefl i (subst (λ (m : ℕ). m < i) e q)))) (h b q))
-    (eq-or-lt-of-le (le-of-suc-le-suc (rw add-one at lt)))
 
 cells-none : (a b : ℕ) → a < 32 → b < 32 → cellAt (replicate 32 (replicate 32 false)) a b ≡ false
 unfolding cellAt
@@ -56,10 +46,6 @@ end-v table j i h =
     let p : (2 * (i - j - 1) + 1) % 2 ≡ 1 = omega arith in
     let q : j + 1 + (2 * (i - j - 1) + 1) / 2 ≡ i = omega arith in
     rw (p, q)
-
--- Every byte is below 256, so that every word is below 2 ^ 32.
-abbrev pub Bytes : List ℕ → Type 0
-Bytes table = (i : ℕ) → byteAt table i < 256
 
 end-below : (table : List ℕ) → Bytes table → (j a : ℕ) → endWord table j a < 4294967296
 unfolding endWord

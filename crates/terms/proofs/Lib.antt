@@ -1,3 +1,1 @@
 pub mod Cells
-pub mod Masks
-pub mod MaskLoop

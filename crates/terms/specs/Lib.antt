@@ -1,4 +1,3 @@
 -- Handy forms of the model's definitions, as the code computes them. Each is proved equal to the literal one in proofs/.
 pub mod Run
 pub mod Closure
-pub mod Columns

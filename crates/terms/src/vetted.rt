@@ -1,4 +1,3 @@
 // Inner functions that other crates call. They are no public calls: each asks what the check has shown before.
 pub mod closure;
-pub mod columns;
 pub mod run;

@@ -1,4 +1,4 @@
--- `check_cases::cases` is safe and ends: each turn goes on in the text. Assumes nothing.
+-- `check_cases::cases` is safe and ends: each turn takes one line. Assumes nothing.
 use Prim.Native.Nat.{_≤_, _-_}
 use lib.ListN.{length}
 use borrow.Author.Needs.{needs}
@@ -14,14 +14,11 @@ abbrev μ-loop : tie.MeasureT-loop
 loop-holds : tie.Need-loop-holds Inv-loop μ-loop
 loop-holds c = search needs
 
-after-requires : tie.Need-after-requires Inv-loop μ-loop
-after-requires c κs = search needs
+case-requires : tie.Need-case-requires Inv-loop μ-loop
+case-requires c κs = search needs
 
 returns : tie.Need-returns Inv-loop μ-loop
 returns c = search needs
-
-case-requires : tie.Need-case-requires Inv-loop μ-loop
-case-requires c κs = search needs
 
 loop-less : tie.Need-loop-less Inv-loop μ-loop
 loop-less c = search needs
@@ -35,13 +32,4 @@ returns-2 c = search needs
 pub cases-spec : {M : Type 1} → statement M
 cases-spec =
     tie.close
-    (tie.spec
-    Inv-loop
-    μ-loop
-    loop-holds
-    after-requires
-    returns
-    case-requires
-    loop-less
-    loop-again
-    returns-2)
+    (tie.spec Inv-loop μ-loop loop-holds case-requires returns loop-less loop-again returns-2)

@@ -1,5 +1,7 @@
 // The table's own refusals in order (document 01): 1, 2, the records from 0 upward, 14; and what an accepted table is.
-use crate::vetted::judging::judge_record;
+use columns::vetted::count_columns;
+use columns::vetted::masks;
+use judging::vetted::judge_record;
 use model::RECORD_BYTES;
 use model::Refusal;
 use model::Summary;
@@ -8,14 +10,12 @@ use records::values::nearest_term;
 use rules::fails_length;
 use rules::fails_loose;
 use rules::fails_width;
-use terms::vetted::columns::count_columns;
-use terms::vetted::columns::masks;
 ghost use mathlib.Core.Path.{_≡_};
 ghost use Prim.Native.Nat.{_≤_};
 ghost use Rattle.model.specs.Replies.{refusal};
 ghost use Rattle.model.specs.Check.{refuseIf, eachBelow, judge, tableVerdict, summary};
 ghost use Rattle.rules.specs.Rules.{looseIn};
-ghost use Rattle.table.specs.Judging.{Summed};
+ghost use Rattle.table.specs.Verdict.{Summed};
 
 // What Check refuses, of any bytes and any column count.
 pub fn table_verdict(table: &[u8], columns: usize) -> Verdict
@@ -30,7 +30,7 @@ pub fn table_verdict(table: &[u8], columns: usize) -> Verdict
     let n = (table.len() / RECORD_BYTES) as u8;
     let records = judge_records(table, columns as u8, n);
     match records {
-        Verdict::Refused(why) => Verdict::Refused(why),
+        Verdict::Refused(_) => records,
         Verdict::Passed => judge_loose(table, n),
     }
 }
@@ -43,8 +43,8 @@ fn judge_records(table: &[u8], columns: u8, n: u8) -> Verdict
     let mut k = 0u8;
     while k < n {
         let v = judge_record(table, columns, k);
-        if let Verdict::Refused(why) = v {
-            return Verdict::Refused(why);
+        if let Verdict::Refused(_) = v {
+            return v;
         }
         k += 1;
     }

@@ -1,17 +1,15 @@
--- `case_lines::read::cells` is safe and ends: each turn takes one byte of the text, and the cells keep their number.
--- Assumes nothing.
-use Prim.Native.Nat.{_-_}
-use mathlib.Core.Path.{_≡_}
+-- `case_lines::read::cells` is safe and ends: each turn goes on in the text. Assumes nothing.
+use Prim.Native.Nat.{_≤_, _-_}
 use lib.ListN.{length}
 use borrow.Author.Needs.{needs}
 use Rattle.case_lines.proofs.read.cells.Statement.{statement}
 use Rattle.case_lines.proofs.read.cells.Tie as tie
 
 abbrev Inv-loop : tie.InvT-loop
-Inv-loop text at first cells₀ cell₀ i₀ cells cell i = length cells ≡ length cells₀
+Inv-loop text at cells₀ i₀ cells i = i₀ ≤ i
 
 abbrev μ-loop : tie.MeasureT-loop
-μ-loop text at first cells₀ cell₀ i₀ cells cell i = length text - i
+μ-loop text at cells₀ i₀ cells i = length text - i
 
 loop-holds : tie.Need-loop-holds Inv-loop μ-loop
 loop-holds c = search needs
@@ -22,26 +20,17 @@ shared-slice-read-b c = search needs
 add-i : tie.Need-add-i Inv-loop μ-loop
 add-i c = search needs
 
-next-requires : tie.Need-next-requires Inv-loop μ-loop
-next-requires c κs = search needs
+returns : tie.Need-returns Inv-loop μ-loop
+returns c = search needs
 
 put-requires : tie.Need-put-requires Inv-loop μ-loop
 put-requires c κs = search needs
-
-same-length : tie.Need-same-length Inv-loop μ-loop
-same-length c = search needs
-
-returns : tie.Need-returns Inv-loop μ-loop
-returns c = search needs
 
 loop-less : tie.Need-loop-less Inv-loop μ-loop
 loop-less c = search needs
 
 loop-again : tie.Need-loop-again Inv-loop μ-loop
 loop-again c = search needs
-
-same-length-2 : tie.Need-same-length-2 Inv-loop μ-loop
-same-length-2 c = search needs
 
 returns-2 : tie.Need-returns-2 Inv-loop μ-loop
 returns-2 c = search needs
@@ -55,11 +44,8 @@ cells-spec =
     loop-holds
     shared-slice-read-b
     add-i
-    next-requires
-    put-requires
-    same-length
     returns
+    put-requires
     loop-less
     loop-again
-    same-length-2
     returns-2)

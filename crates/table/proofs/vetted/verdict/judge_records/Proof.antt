@@ -27,18 +27,19 @@ judge-record-requires c κs =
     let s = l .before .before in
     record { few = omega (arith, s .pre .0); narrow = s .pre .1; passed = l .loop .inv .1 }
 
-enum-known-v : tie.Need-enum-known-v Inv-loop μ-loop
-enum-known-v c = search needs
+enum-told : tie.Need-enum-told Inv-loop μ-loop
+enum-told c = search needs
 
 returns : tie.Need-returns Inv-loop μ-loop
 returns c =
-    let r = c .before .before .before in
+    let r = c .before .before in
     let l = r .before .before in
     let a = l .before .before .args in
-    sym (each-first (judge (now (a .table)) (a .columns)) (a .n) (l .loop .k) _ (omega arith) (l .loop .inv .1) (sym (r .judge-record .ensures) ∙ c .before .v .given .1))
+    let e = c .enum-told .given .1 in
+    e ∙ sym (each-first (judge (now (a .table)) (a .columns)) (a .n) (l .loop .k) _ (omega arith) (l .loop .inv .1) (sym (r .judge-record .ensures) ∙ e))
 
-enum-told : tie.Need-enum-told Inv-loop μ-loop
-enum-told c = search needs
+enum-told-2 : tie.Need-enum-told-2 Inv-loop μ-loop
+enum-told-2 c = search needs
 
 add-k : tie.Need-add-k Inv-loop μ-loop
 add-k c = search needs
@@ -51,7 +52,7 @@ unfolding eachBelow
 loop-again c =
     let r = c .before .before in
     let l = r .before .before in
-    (search needs, rw (add-one, l .loop .inv .1) (sym (r .judge-record .ensures) ∙ c .enum-told .given .1))
+    (search needs, rw (add-one, l .loop .inv .1) (sym (r .judge-record .ensures) ∙ c .enum-told2 .given .1))
 
 returns-2 : tie.Need-returns-2 Inv-loop μ-loop
 returns-2 c =
@@ -68,9 +69,9 @@ judge-records-spec =
     μ-loop
     loop-holds
     judge-record-requires
-    enum-known-v
-    returns
     enum-told
+    returns
+    enum-told-2
     add-k
     loop-less
     loop-again

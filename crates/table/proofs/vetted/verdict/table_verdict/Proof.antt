@@ -45,11 +45,11 @@ judge-records-requires c κs =
     let a = w .before .before .before .args in
     (length-ok (now (a .table)) (sym (c .before .fails-length .ensures) ∙ c .if2 .left), width-ok (a .columns) (sym (w .before .fails-width .ensures) ∙ w .if1 .left))
 
-enum-known-records : tie.Need-enum-known-records
-enum-known-records c = search needs
-
 enum-told : tie.Need-enum-told
 enum-told c = search needs
+
+enum-told-2 : tie.Need-enum-told-2
+enum-told-2 c = search needs
 
 judge-loose-requires : tie.Need-judge-loose-requires
 judge-loose-requires c κs = search needs
@@ -57,7 +57,7 @@ judge-loose-requires c κs = search needs
 returns-3 : tie.Need-returns-3
 unfolding refusal numbered refusals
 returns-3 c =
-    let r = c .before .before .before in
+    let r = c .before .before in
     let l = r .before in
     let w = l .before .before in
     let a = w .before .before .before .args in
@@ -65,8 +65,8 @@ returns-3 c =
       verdict-steps (now (a .table)) (a .columns),
       sym (w .before .fails-width .ensures) ∙ w .if1 .left,
       sym (l .before .fails-length .ensures) ∙ l .if2 .left,
-      sym (r .judge-records .ensures) ∙ c .before .records .given .1,
-    )
+      sym (r .judge-records .ensures) ∙ c .enum-told .given .1,
+    ) (c .enum-told .given .1)
 
 returns-4 : tie.Need-returns-4
 unfolding refusal numbered refusals
@@ -80,7 +80,7 @@ returns-4 c =
       verdict-steps (now (a .table)) (a .columns),
       sym (w .before .fails-width .ensures) ∙ w .if1 .left,
       sym (l .before .fails-length .ensures) ∙ l .if2 .left,
-      sym (r .judge-records .ensures) ∙ e .enum-told .given .1,
+      sym (r .judge-records .ensures) ∙ e .enum-told2 .given .1,
     ) (c .judge-loose .ensures)
 
 pub table-verdict-spec : {M : Type 1} → statement M
@@ -94,8 +94,8 @@ table-verdict-spec =
     cast-n
     cast-judge-records
     judge-records-requires
-    enum-known-records
     enum-told
+    enum-told-2
     judge-loose-requires
     returns-3
     returns-4)

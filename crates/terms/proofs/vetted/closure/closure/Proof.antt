@@ -5,8 +5,9 @@ use native.Mathlib.Omega.{arith}
 use denote.Ref.{now}
 use borrow.Author.Needs.{needs}
 use Rattle.model.specs.Bytes.{byteAt}
+use Rattle.laws.specs.Records.{Bytes}
 use Rattle.terms.specs.Closure.{Closure}
-use Rattle.terms.proofs.Cells.{Bytes, closure-none, closure-more}
+use Rattle.terms.proofs.Cells.{closure-none, closure-more}
 use Rattle.terms.proofs.vetted.closure.closure.Statement.{statement}
 use Rattle.terms.proofs.vetted.closure.closure.Tie as tie
 

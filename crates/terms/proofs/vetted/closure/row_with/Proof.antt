@@ -7,8 +7,8 @@ use native.Mathlib.Nat.{not-suc-le-zero}
 use lib.ListN.{length, getD, length-set}
 use denote.Ref.{now}
 use borrow.Author.Needs.{needs}
+use Rattle.laws.specs.Fill.{fill-more}
 use Rattle.terms.specs.Closure.{cellWith}
-use Rattle.terms.proofs.Cells.{fill-more}
 use Rattle.terms.proofs.vetted.closure.row_with.Statement.{statement}
 use Rattle.terms.proofs.vetted.closure.row_with.Tie as tie
 

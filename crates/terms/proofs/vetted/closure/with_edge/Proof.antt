@@ -8,8 +8,8 @@ use native.Mathlib.Nat.{not-suc-le-zero}
 use lib.ListN.{length, getD, length-set}
 use denote.Ref.{now}
 use borrow.Author.Needs.{needs}
+use Rattle.laws.specs.Fill.{fill-more}
 use Rattle.terms.specs.Closure.{cellAt, cellWith}
-use Rattle.terms.proofs.Cells.{fill-more}
 use Rattle.terms.proofs.vetted.closure.with_edge.Statement.{statement}
 use Rattle.terms.proofs.vetted.closure.with_edge.Tie as tie
 

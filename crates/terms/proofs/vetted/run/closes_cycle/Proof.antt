@@ -6,11 +6,11 @@ use borrow.Author.Needs.{needs}
 use Rattle.model.specs.Bytes.{byteAt}
 use Rattle.model.specs.Record.{uAt, vAt}
 use Rattle.model.specs.Check.{closesCycle}
-use Rattle.laws.specs.Records.{word-small}
+use Rattle.laws.specs.Records.{Bytes, word-small}
 use Rattle.records.specs.Fields.{uWord, vWord}
 use Rattle.records.proofs.Signed.{eq-signed}
 use Rattle.terms.specs.Closure.{cellAt}
-use Rattle.terms.proofs.Cells.{Bytes, end-u, end-v}
+use Rattle.terms.proofs.Cells.{end-u, end-v}
 use Rattle.terms.proofs.vetted.run.closes_cycle.Statement.{statement}
 use Rattle.terms.proofs.vetted.run.closes_cycle.Tie as tie
 

@@ -10,7 +10,7 @@ use mir.Val.{toZ, ofZ}
 use mir.Facts.{toZ-ofZ}
 use denote.Ref.{now}
 use borrow.Author.Needs.{sfits-of, needs}
-use Rattle.terms.proofs.Cells.{fill-more}
+use Rattle.laws.specs.Fill.{fill-more}
 use Rattle.values.specs.Prepared.{numberAt}
 use Rattle.values.proofs.vetted.prepared.numbers.Statement.{statement}
 use Rattle.values.proofs.vetted.prepared.numbers.Tie as tie

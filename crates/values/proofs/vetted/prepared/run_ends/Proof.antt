@@ -8,7 +8,7 @@ use lib.ListN.{length, getD, length-set}
 use denote.Ref.{now}
 use borrow.Author.Needs.{needs}
 use Rattle.model.specs.Record.{recordCount, recordAt, isTerm}
-use Rattle.terms.proofs.Cells.{fill-more}
+use Rattle.laws.specs.Fill.{fill-more}
 use Rattle.values.specs.Prepared.{Run}
 use Rattle.values.proofs.RunEnd.{few-records, next-run}
 use Rattle.values.proofs.vetted.prepared.run_ends.Statement.{statement}

@@ -1,0 +1,108 @@
+// One record judged for 3 to 13 in number order (document 01, "What a call turns down"). Each chain of rules is written
+// from its last rule to its first.
+use columns::vetted::masks;
+use filler::fails_filler;
+use model::MOST_VALUES;
+use model::Refusal;
+use model::Verdict;
+use records::record::kind_at;
+use records::record::p_at;
+use records::record::q_at;
+use records::record::record_at;
+use records::values::nearest_term;
+use rules::fails_bounds;
+use rules::fails_column;
+use rules::fails_kind;
+use rules::fails_part;
+use rules::fails_reused;
+use rules::fails_stray;
+use terms::vetted::run::fails_clash;
+use terms::vetted::run::fails_loop;
+ghost use mathlib.Core.Path.{_≡_};
+ghost use Rattle.model.specs.declared.Verdict.the-variants.{Passed};
+ghost use Rattle.model.specs.Check.{judge, failsApart};
+ghost use Rattle.judging.specs.Judging.{refuseOr, judgeFields, judgeRun, judgeShape, Reached, Fielded, ValueFielded};
+
+// Record k, where every record below it passed.
+pub fn judge_record(table: &[u8], columns: u8, k: u8) -> Verdict
+    requires { ⌜ Reached (now table) columns k ⌝ }
+    ensures { λ r. ⌜ r ≡ judge (now (table .entry)) columns k ⌝ }
+{
+    let first = judge_fields(table, columns, k);
+    match first {
+        Verdict::Refused(_) => first,
+        Verdict::Passed => judge_rest(table, columns, k),
+    }
+}
+
+// 3 to 8, which can be told of any bytes.
+fn judge_fields(table: &[u8], columns: u8, k: u8) -> Verdict
+    ensures { λ r. ⌜ r ≡ judgeFields (now (table .entry)) columns k Passed ⌝ }
+{
+    let r = record_at(table, k);
+    let mut v = refuse_or(fails_stray(table, k), Refusal::Stray(k), Verdict::Passed);
+    v = refuse_or(fails_reused(table, k), Refusal::Reused(k), v);
+    v = refuse_or(fails_part(table, k), Refusal::Part(k), v);
+    v = refuse_or(fails_column(columns, r), Refusal::Column(k), v);
+    v = refuse_or(fails_filler(table, k), Refusal::Filler(k), v);
+    refuse_or(fails_kind(r), Refusal::Kind(k), v)
+}
+
+// 9 to 13.
+fn judge_rest(table: &[u8], columns: u8, k: u8) -> Verdict
+    requires { ⌜ Fielded (now table) columns k ⌝ }
+    ensures { λ r. ⌜ r ≡ judgeRun (now (table .entry)) k (judgeShape (now (table .entry)) k) ⌝ }
+{
+    let shape = judge_shape(table, columns, k);
+    if kind_at(table, k) == 0 {
+        return judge_run(table, columns, k, shape);
+    }
+    shape
+}
+
+// 9 to 11, then the rest. LOOP looks at no more than 16 edges, so that CROWD goes first.
+fn judge_run(table: &[u8], columns: u8, k: u8, rest: Verdict) -> Verdict
+    requires { ⌜ ValueFielded (now table) columns k ⌝ }
+    ensures { λ r. ⌜ r ≡ judgeRun (now (table .entry)) k rest ⌝ }
+{
+    let j = nearest_term(table, k);
+    if MOST_VALUES < (k - j) as usize {
+        return Verdict::Refused(Refusal::Crowd(k));
+    }
+    let v = refuse_or(fails_loop(table, j, k), Refusal::Loop(k), rest);
+    refuse_or(fails_clash(table, j, k), Refusal::Clash(k), v)
+}
+
+// 12 and 13.
+fn judge_shape(table: &[u8], columns: u8, k: u8) -> Verdict
+    requires { ⌜ Fielded (now table) columns k ⌝ }
+    ensures { λ r. ⌜ r ≡ judgeShape (now (table .entry)) k ⌝ }
+{
+    let v = refuse_or(
+        fails_apart(table, columns, k),
+        Refusal::Apart(k),
+        Verdict::Passed,
+    );
+    refuse_or(fails_bounds(table, k), Refusal::Bounds(k), v)
+}
+
+// 13 APART: BOTH of parts that read different columns.
+fn fails_apart(table: &[u8], columns: u8, k: u8) -> bool
+    requires { ⌜ Fielded (now table) columns k ⌝ }
+    ensures { λ r. ⌜ r ≡ failsApart (now (table .entry)) k ⌝ }
+{
+    if kind_at(table, k) != 18 {
+        return false;
+    }
+    let a = masks(table, k);
+    let p = p_at(table, k) as usize;
+    let q = q_at(table, k) as usize;
+    a[p] != a[q]
+}
+
+// One rule, then the verdict of the rules after it.
+fn refuse_or(fails: bool, why: Refusal, next: Verdict) -> Verdict
+    ensures { λ r. ⌜ r ≡ refuseOr fails why next ⌝ }
+{
+    if fails { Verdict::Refused(why) } else { next }
+}

@@ -1,0 +1,2 @@
+-- The marks of a table's terms.
+pub mod Marks
