@@ -13,7 +13,7 @@ use Rattle.model.specs.declared.{Value.Value, BaseTerm.BaseTerm}
 use Rattle.model.specs.Bytes.{eqZ}
 use Rattle.model.specs.Better.{betterValue}
 use Rattle.records.proofs.Signed.{eq-bits}
-use Rattle.base_terms.specs.ValueCode.{testsCode, apartCode, rankCode, valueCode}
+use Rattle.laws.specs.ValueCodes.{testsCode, apartCode, rankCode, valueCode}
 
 -- Two locals of type i32 with the same bits hold the same number,
 pub same-bits : {a b : ℤ} → SFits w32 a → SFits w32 b → ofZ w32 a ≡ ofZ w32 b → eqZ a b ≡ true

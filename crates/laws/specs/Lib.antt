@@ -30,6 +30,7 @@ pub mod Decomposition
 pub mod Outcome
 pub mod Compared
 pub mod Codes
+pub mod ValueCodes
 -- Rows of a set.
 pub mod Select
 pub mod Answers

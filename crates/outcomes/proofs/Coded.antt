@@ -1,29 +1,28 @@
 -- The codes of the records up to the asked term, as one loop upward finds them, are those of their terms. Assumes nothing.
-use mathlib.Core.Path.{_≡_, refl, sym, _∙_, ap}
+use mathlib.Core.Path.{_≡_, refl, sym, ap}
 use mathlib.Core.Bool.{Bool, true, false≢true}
 use mathlib.Core.List.{List}
 use Prim.Native.Nat.{ℕ, _<_, _≤_}
 use native.Mathlib.Omega.{arith}
 use lib.IntN.{ℤ}
-use lib.ListN.{length, getD}
+use lib.ListN.{getD}
 use Rattle.model.specs.declared.{BaseTerm.BaseTerm, CompoundTerm.CompoundTerm, Record.Record}
-use Rattle.model.specs.declared.BaseTerm.the-variants.{Explicit}
 use Rattle.model.specs.declared.CompoundTerm.the-variants.{Joined, Dual}
 use Rattle.model.specs.declared.Record.the-variants.{Base, Compound, Unknown}
-use Rattle.model.specs.Record.{recordCount, recordAt, isTerm, valuesOf}
-use Rattle.model.specs.Term.{Term, base, pair, dual, termAt}
+use Rattle.model.specs.Record.{recordCount, recordAt, isTerm}
+use Rattle.model.specs.Term.{termAt}
 use Rattle.model.specs.Better.{Row}
-use Rattle.laws.specs.Sound.{soundBase, sound, within}
+use Rattle.laws.specs.Sound.{soundBase, sound}
 use Rattle.laws.specs.Runs.{valuesBetween}
 use Rattle.laws.specs.Outcome.{outcome-base}
-use Rattle.laws.specs.Codes.{codeOf, code, joinedCode, turnedCode, pair-code, dual-code}
+use Rattle.laws.specs.Codes.{codeOf, code, pair-code, dual-code}
 use Rattle.laws.specs.Accepted.{Accepted}
 use Rattle.laws.specs.AcceptedTable.{accepted-table}
 use Rattle.laws.specs.AcceptedKinds.{AcceptedBase, accepted-base, accepted-joined, accepted-dual}
 use Rattle.laws.specs.AcceptedTerms.{accepted-sound}
-use Rattle.values.specs.Prepared.{Run, ReachedFrom}
-use Rattle.base_terms.specs.ValueCode.{testsCode, valueCode, BaseTermAt}
-use Rattle.outcomes.specs.Rows.{Asked, Ready, PartsBelow, RecordReady, compoundCode, recordCode}
+use Rattle.values.specs.Prepared.{Run}
+use Rattle.laws.specs.ValueCodes.{testsCode, valueCode}
+use Rattle.outcomes.specs.Rows.{Asked, Ready, PartsBelow, RecordReady, recordCode}
 
 -- The asked term is one of at most 128 records.
 pub term-below : (table : List ℕ) (term : ℕ) (x y : Row) → Asked table term x y → term < 128

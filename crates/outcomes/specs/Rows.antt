@@ -14,7 +14,8 @@ use Rattle.model.specs.Better.{Row, cell}
 use Rattle.laws.specs.Codes.{turnedCode, joinedCode}
 use Rattle.laws.specs.Taken.{TakenTerm}
 use Rattle.values.specs.Prepared.{Numbers, RunEnds, Reached}
-use Rattle.base_terms.specs.ValueCode.{valueCode, BaseTermAt}
+use Rattle.laws.specs.ValueCodes.{valueCode}
+use Rattle.classes.specs.Places.{BaseTermAt}
 
 -- The number given is a term record of an accepted table, and the rows are of the count's length.
 pub record Asked (table : List ℕ) (term : ℕ) (first second : Row) : Type 0 where

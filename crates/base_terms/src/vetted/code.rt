@@ -1,10 +1,14 @@
 // The code of two values under base term k, whose values are the records from k + 1 to before e: same 0, first better 1,
 // second better 2, unranked 3.
+use classes::vetted::classes::class_neg;
+use classes::vetted::classes::class_pos;
+use classes::vetted::classes::class_pos_neg;
+use classes::vetted::classes::class_pos_pos;
+use classes::vetted::places::leads;
 use distances::distance;
 use distances::distance_between;
 use model::BaseTerm;
 use values::vetted::lookup::end_place;
-use values::vetted::lookup::in_role;
 ghost use mathlib.Core.Path.{_≡_};
 ghost use mathlib.Core.Bool.{true, false};
 ghost use lib.Signed.{ltZ};
@@ -12,10 +16,10 @@ ghost use Rattle.model.specs.declared.BaseTerm.the-variants.{Pos, Neg, PosNeg, 
 ghost use Rattle.model.specs.Better.{distance, distanceBetween};
 ghost use Rattle.laws.specs.Sound.{unclashed};
 ghost use Rattle.laws.specs.Runs.{valuesBetween};
-ghost use Rattle.laws.specs.Ranks.{rankPos, rankNeg, rankPosNeg, rankPosPos};
 ghost use Rattle.terms.specs.Run.{Values};
 ghost use Rattle.values.specs.Prepared.{Numbers, ReachedFrom};
-ghost use Rattle.base_terms.specs.ValueCode.{testsCode, apartCode, rankCode, valueCode, BaseTermAt, Ends, leadsTo};
+ghost use Rattle.laws.specs.ValueCodes.{testsCode, apartCode, rankCode, valueCode};
+ghost use Rattle.classes.specs.Places.{BaseTermAt};
 
 // x against y.
 pub fn base_code(
@@ -133,56 +137,6 @@ fn pos_pos_code(table: &[u8], numbers: &[i32; 256], k: u8, e: u8, x: i32, y: i32
     )
 }
 
-// Favourites 0, others 1.
-fn class_pos(table: &[u8], numbers: &[i32; 256], k: u8, e: u8, x: i32) -> u8
-    requires { ⌜ Values (now table) k e × Numbers (now table) (now numbers) ⌝ }
-    ensures { λ r. ⌜ r ≡ rankPos (valuesBetween (now (table .entry)) k e) x ⌝ }
-{
-    if in_role(table, numbers, k, e, 1, x) {
-        return 0;
-    }
-    1
-}
-
-// Others 0, disliked 1.
-fn class_neg(table: &[u8], numbers: &[i32; 256], k: u8, e: u8, x: i32) -> u8
-    requires { ⌜ Values (now table) k e × Numbers (now table) (now numbers) ⌝ }
-    ensures { λ r. ⌜ r ≡ rankNeg (valuesBetween (now (table .entry)) k e) x ⌝ }
-{
-    if in_role(table, numbers, k, e, 2, x) {
-        return 1;
-    }
-    0
-}
-
-// Favourites 0, others 1, disliked 2.
-fn class_pos_neg(table: &[u8], numbers: &[i32; 256], k: u8, e: u8, x: i32) -> u8
-    requires { ⌜ Values (now table) k e × Numbers (now table) (now numbers) ⌝ }
-    ensures { λ r. ⌜ r ≡ rankPosNeg (valuesBetween (now (table .entry)) k e) x ⌝ }
-{
-    if in_role(table, numbers, k, e, 1, x) {
-        return 0;
-    }
-    if in_role(table, numbers, k, e, 2, x) {
-        return 2;
-    }
-    1
-}
-
-// Favourites 0, second choices 1, others 2.
-fn class_pos_pos(table: &[u8], numbers: &[i32; 256], k: u8, e: u8, x: i32) -> u8
-    requires { ⌜ Values (now table) k e × Numbers (now table) (now numbers) ⌝ }
-    ensures { λ r. ⌜ r ≡ rankPosPos (valuesBetween (now (table .entry)) k e) x ⌝ }
-{
-    if in_role(table, numbers, k, e, 1, x) {
-        return 0;
-    }
-    if in_role(table, numbers, k, e, 3, x) {
-        return 1;
-    }
-    2
-}
-
 // By the places of x and y among the ends of the edges.
 fn explicit_code(
     table: &[u8],
@@ -199,20 +153,4 @@ fn explicit_code(
     let p = end_place(numbers, table, k, e, x);
     let q = end_place(numbers, table, k, e, y);
     apart_code(leads(reach, k, e, q, p), leads(reach, k, e, p, q))
-}
-
-// Whether the number at place q is better than that at place p; 2 e is the place of a number in no edge.
-fn leads(reach: &[[bool; 32]; 256], k: u8, e: u8, p: usize, q: usize) -> bool
-    requires { ⌜ Ends k e p × Ends k e q ⌝ }
-    ensures { λ r. ⌜ r ≡ leadsTo (now (reach .entry)) k e p q ⌝ }
-{
-    let none = 2 * (e as usize);
-    if q == none {
-        return false;
-    }
-    if p == none {
-        return true;
-    }
-    let at = q - (2 * (k as usize) + 2);
-    reach[p][at]
 }

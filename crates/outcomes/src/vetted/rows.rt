@@ -1,14 +1,13 @@
 // Two rows compared under a term record of an accepted table: one loop over the records upward from 0 to the asked term,
 // with a code for each. Codes: same 0, first better 1, second better 2, unranked 3.
 use base_terms::vetted::code::base_code;
+use codes::prior_code;
+use codes::turned_code;
 use model::CompoundTerm;
 use model::Outcome;
 use model::Pair;
 use model::Record;
-use records::record::kind_at;
-use records::record::p_at;
-use records::record::q_at;
-use records::record::record_of;
+use values::vetted::lookup::decoded;
 ghost use mathlib.Core.Path.{_≡_};
 ghost use Prim.Native.Nat.{_<_};
 ghost use lib.ListN.{getD};
@@ -16,8 +15,7 @@ ghost use Rattle.model.specs.Record.{recordAt};
 ghost use Rattle.model.specs.Term.{termAt};
 ghost use Rattle.model.specs.Compare.{outcome};
 ghost use Rattle.laws.specs.Runs.{valuesBetween};
-ghost use Rattle.laws.specs.Codes.{outcomeOf, priorCode, turnedCode, joinedCode};
-ghost use Rattle.values.specs.Prepared.{Numbers};
+ghost use Rattle.laws.specs.Codes.{outcomeOf, joinedCode};
 ghost use Rattle.outcomes.specs.Rows.{Ready, RecordReady, PartsBelow, recordCode, compoundCode};
 
 // The outcome of the first row against the second. What is prepared of the table's values (crate `values`) is handed in, so
@@ -72,21 +70,6 @@ fn record_code(
     }
 }
 
-// Record k, with its numbers as they are prepared.
-fn decoded(table: &[u8], numbers: &[i32; 256], k: u8) -> Record
-    requires { ⌜ (k < 128) × Numbers (now table) (now numbers) ⌝ }
-    ensures { λ r. ⌜ r ≡ recordAt (now (table .entry)) k ⌝ }
-{
-    let at = 2 * (k as usize);
-    record_of(
-        kind_at(table, k),
-        p_at(table, k),
-        q_at(table, k),
-        numbers[at],
-        numbers[at + 1],
-    )
-}
-
 fn compound_code(c: CompoundTerm, codes: &[u8; 128]) -> u8
     requires { ⌜ PartsBelow 128 c ⌝ }
     ensures { λ r. ⌜ r ≡ compoundCode c (λ i. getD (now (codes .entry)) i 0) ⌝ }
@@ -112,29 +95,6 @@ fn joined_code(op: Pair, a: u8, b: u8) -> u8
         Pair::Prior => prior_code(a, b),
         Pair::Both => a | b,
     }
-}
-
-// The left's unless it is same, then the right's.
-fn prior_code(a: u8, b: u8) -> u8
-    ensures { λ r. ⌜ r ≡ priorCode a b ⌝ }
-{
-    if a == 0 {
-        return b;
-    }
-    a
-}
-
-// First better and second better change places.
-fn turned_code(a: u8) -> u8
-    ensures { λ r. ⌜ r ≡ turnedCode a ⌝ }
-{
-    if a == 1 {
-        return 2;
-    }
-    if a == 2 {
-        return 1;
-    }
-    a
 }
 
 fn outcome_of(code: u8) -> Outcome

@@ -1,17 +1,36 @@
 // What the values of a term say of a number. The term is record k, its values are the records from k + 1 to before e, and
 // `numbers` holds u and v of record i at 2 i and 2 i + 1.
+use model::Record;
+use records::record::kind_at;
 use records::record::p_at;
+use records::record::q_at;
+use records::record::record_of;
 ghost use mathlib.Core.Path.{_≡_};
 ghost use mathlib.Core.Bool.{_&&_};
 ghost use Prim.Native.Nat.{_<_};
 ghost use lib.Dec.{eqb};
 ghost use Rattle.model.specs.Search.{anyIn};
 ghost use Rattle.model.specs.Bytes.{eqZ};
-ghost use Rattle.model.specs.Record.{pAt, uAt};
+ghost use Rattle.model.specs.Record.{pAt, uAt, recordAt};
 ghost use Rattle.model.specs.Better.{inRole};
 ghost use Rattle.laws.specs.Runs.{valuesBetween};
 ghost use Rattle.terms.specs.Run.{Values};
 ghost use Rattle.values.specs.Prepared.{Numbers, EndPlace};
+
+// Record k, with its numbers as they are prepared.
+pub fn decoded(table: &[u8], numbers: &[i32; 256], k: u8) -> Record
+    requires { ⌜ (k < 128) × Numbers (now table) (now numbers) ⌝ }
+    ensures { λ r. ⌜ r ≡ recordAt (now (table .entry)) k ⌝ }
+{
+    let at = 2 * (k as usize);
+    record_of(
+        kind_at(table, k),
+        p_at(table, k),
+        q_at(table, k),
+        numbers[at],
+        numbers[at + 1],
+    )
+}
 
 // Whether x stands among the values in that role.
 pub fn in_role(table: &[u8], numbers: &[i32; 256], k: u8, e: u8, role: u8, x: i32) -> bool

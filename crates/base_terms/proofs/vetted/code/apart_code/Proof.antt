@@ -1,5 +1,5 @@
 -- `base_terms::vetted::code::apart_code` meets its contract. Assumes nothing.
-use Rattle.base_terms.specs.ValueCode.{testsCode}
+use Rattle.laws.specs.ValueCodes.{testsCode}
 use Rattle.base_terms.proofs.vetted.code.apart_code.Statement.{statement}
 use Rattle.base_terms.proofs.vetted.code.apart_code.Tie as tie
 

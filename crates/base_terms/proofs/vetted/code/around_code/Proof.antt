@@ -1,7 +1,7 @@
 -- `base_terms::vetted::code::around_code` meets its contract. Assumes nothing.
 use mir.Facts.{toZ-ofZ}
 use borrow.Author.Needs.{sfits-of, needs}
-use Rattle.base_terms.specs.ValueCode.{rankCode}
+use Rattle.laws.specs.ValueCodes.{rankCode}
 use Rattle.base_terms.proofs.vetted.code.around_code.Statement.{statement}
 use Rattle.base_terms.proofs.vetted.code.around_code.Tie as tie
 

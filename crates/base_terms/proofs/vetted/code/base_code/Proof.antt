@@ -9,7 +9,7 @@ use Rattle.model.specs.Better.{betterValue}
 use Rattle.laws.specs.Sound.{soundBase}
 use Rattle.laws.specs.Runs.{valuesBetween}
 use Rattle.records.proofs.Signed.{returned}
-use Rattle.base_terms.specs.ValueCode.{testsCode, apartCode, rankCode, valueCode}
+use Rattle.laws.specs.ValueCodes.{testsCode, apartCode, rankCode, valueCode}
 use Rattle.base_terms.proofs.Coded.{same-bits, other-bits, same-code, other-code}
 use Rattle.base_terms.proofs.vetted.code.base_code.Statement.{statement}
 use Rattle.base_terms.proofs.vetted.code.base_code.Tie as tie

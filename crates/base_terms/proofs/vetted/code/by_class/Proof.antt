@@ -1,6 +1,6 @@
 -- `base_terms::vetted::code::by_class` meets its contract. Assumes nothing.
 use borrow.Author.Needs.{needs}
-use Rattle.base_terms.specs.ValueCode.{rankCode}
+use Rattle.laws.specs.ValueCodes.{rankCode}
 use Rattle.base_terms.proofs.vetted.code.by_class.Statement.{statement}
 use Rattle.base_terms.proofs.vetted.code.by_class.Tie as tie
 

@@ -2,8 +2,8 @@
 use mir.Facts.{toZ-ofZ}
 use denote.Ref.{now}
 use borrow.Author.Needs.{needs}
-use Rattle.base_terms.specs.ValueCode.{apartCode}
-use Rattle.base_terms.proofs.Leads.{ends-of, leads-is}
+use Rattle.laws.specs.ValueCodes.{apartCode}
+use Rattle.classes.specs.Leads.{ends-of, leads-is}
 use Rattle.base_terms.proofs.vetted.code.explicit_code.Statement.{statement}
 use Rattle.base_terms.proofs.vetted.code.explicit_code.Tie as tie
 

@@ -1,6 +1,4 @@
 -- `outcomes::vetted::rows::compound_code` meets its contract. Assumes nothing.
-use mathlib.Core.Path.{_∙_}
-use Prim.Native.Nat.{_<_}
 use borrow.Author.Needs.{needs}
 use Rattle.outcomes.proofs.vetted.rows.compound_code.Statement.{statement}
 use Rattle.outcomes.proofs.vetted.rows.compound_code.Tie as tie

@@ -1,13 +1,11 @@
 -- `outcomes::vetted::rows::record_code` meets its contract. Assumes nothing.
-use mathlib.Core.Path.{_≡_, sym, _∙_}
+use mathlib.Core.Path.{sym, _∙_}
 use lib.IntN.{pos}
 use lib.ListN.{getD}
 use mir.Syntax.{w32}
 use denote.Ref.{now}
 use mir.Facts.{toZ-ofZ}
 use borrow.Author.Needs.{needs, sfits-of}
-use Rattle.model.specs.declared.Record.the-variants.{Base, Compound}
-use Rattle.model.specs.Record.{recordAt}
 use Rattle.model.specs.Better.{cell}
 use Rattle.outcomes.proofs.vetted.rows.record_code.Statement.{statement}
 use Rattle.outcomes.proofs.vetted.rows.record_code.Tie as tie

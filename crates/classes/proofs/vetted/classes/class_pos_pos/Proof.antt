@@ -1,16 +1,16 @@
--- `base_terms::vetted::code::class_pos_neg` meets its contract. Assumes nothing.
+-- `classes::vetted::classes::class_pos_pos` meets its contract. Assumes nothing.
 use mathlib.Core.Path.{_∙_, sym}
 use mir.Facts.{toZ-ofZ}
 use borrow.Author.Needs.{needs}
-use Rattle.laws.specs.Ranks.{rankPosNeg}
-use Rattle.base_terms.proofs.vetted.code.class_pos_neg.Statement.{statement}
-use Rattle.base_terms.proofs.vetted.code.class_pos_neg.Tie as tie
+use Rattle.laws.specs.Ranks.{rankPosPos}
+use Rattle.classes.proofs.vetted.classes.class_pos_pos.Statement.{statement}
+use Rattle.classes.proofs.vetted.classes.class_pos_pos.Tie as tie
 
 in-role-requires : tie.Need-in-role-requires
 in-role-requires c κs = search needs
 
 returns : tie.Need-returns
-unfolding rankPosNeg
+unfolding rankPosPos
 returns c =
     let r = c .before in
     let f = r .before .before .fits in
@@ -20,7 +20,7 @@ in-role-requires-2 : tie.Need-in-role-requires-2
 in-role-requires-2 c κs = search needs
 
 returns-2 : tie.Need-returns-2
-unfolding rankPosNeg
+unfolding rankPosPos
 returns-2 c =
     let r = c .before in
     let l = r .before in
@@ -31,7 +31,7 @@ returns-2 c =
     )
 
 returns-3 : tie.Need-returns-3
-unfolding rankPosNeg
+unfolding rankPosPos
 returns-3 c =
     let r = c .before in
     let l = r .before in
@@ -41,5 +41,5 @@ returns-3 c =
       rw (toZ-ofZ (f .x)) at (sym (r .in-role2 .ensures) ∙ c .if2 .left),
     )
 
-pub class-pos-neg-spec : {M : Type 1} → statement M
-class-pos-neg-spec = tie.close (tie.spec in-role-requires returns in-role-requires-2 returns-2 returns-3)
+pub class-pos-pos-spec : {M : Type 1} → statement M
+class-pos-pos-spec = tie.close (tie.spec in-role-requires returns in-role-requires-2 returns-2 returns-3)

@@ -1,10 +1,10 @@
--- `base_terms::vetted::code::leads` meets its contract. Assumes nothing.
+-- `classes::vetted::places::leads` meets its contract. Assumes nothing.
 use native.Mathlib.Omega.{arith}
 use borrow.Author.Tests.{eq-eqb, ne-eqb}
 use Rattle.terms.specs.Closure.{cellAt}
-use Rattle.base_terms.specs.ValueCode.{leadsTo}
-use Rattle.base_terms.proofs.vetted.code.leads.Statement.{statement}
-use Rattle.base_terms.proofs.vetted.code.leads.Tie as tie
+use Rattle.classes.specs.Places.{leadsTo}
+use Rattle.classes.proofs.vetted.places.leads.Statement.{statement}
+use Rattle.classes.proofs.vetted.places.leads.Tie as tie
 
 mul-none : tie.Need-mul-none
 mul-none c = omega arith

@@ -1,4 +1,4 @@
--- `outcomes::vetted::rows::decoded` meets its contract. Assumes nothing.
+-- `values::vetted::lookup::decoded` meets its contract. Assumes nothing.
 use mathlib.Core.Path.{_∙_}
 use Prim.Native.Nat.{_+_, _*_}
 use native.Mathlib.Omega.{arith}
@@ -9,9 +9,9 @@ use denote.Ref.{now}
 use mir.Facts.{toZ-ofZ}
 use borrow.Author.Needs.{needs, sfits-of}
 use Rattle.model.specs.Record.{recordAt}
 use Rattle.values.proofs.Ends.{number-u, number-v}
-use Rattle.outcomes.proofs.vetted.rows.decoded.Statement.{statement}
-use Rattle.outcomes.proofs.vetted.rows.decoded.Tie as tie
+use Rattle.values.proofs.vetted.lookup.decoded.Statement.{statement}
+use Rattle.values.proofs.vetted.lookup.decoded.Tie as tie
 
 mul-at : tie.Need-mul-at
 mul-at c = search needs

@@ -16,7 +16,7 @@ use Rattle.laws.specs.Explicit.{reach-ends}
 use Rattle.terms.specs.Run.{Values}
 use Rattle.terms.specs.Closure.{cellAt}
 use Rattle.values.specs.Prepared.{EndPlace, ReachedFrom}
-use Rattle.base_terms.specs.ValueCode.{Ends, leadsTo}
+use Rattle.classes.specs.Places.{Ends, leadsTo}
 
 module _ (edges : List Value) (x y : ℤ) where
   -- What is in no edge is not better,

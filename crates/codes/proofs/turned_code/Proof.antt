@@ -1,8 +1,8 @@
--- `outcomes::vetted::rows::turned_code` meets its contract. Assumes nothing.
+-- `codes::turned_code` meets its contract. Assumes nothing.
 use borrow.Author.Tests.{eq-eqb, ne-eqb}
 use Rattle.laws.specs.Codes.{turnedCode}
-use Rattle.outcomes.proofs.vetted.rows.turned_code.Statement.{statement}
-use Rattle.outcomes.proofs.vetted.rows.turned_code.Tie as tie
+use Rattle.codes.proofs.turned_code.Statement.{statement}
+use Rattle.codes.proofs.turned_code.Tie as tie
 
 returns : tie.Need-returns
 unfolding turnedCode

@@ -1,8 +1,8 @@
--- `outcomes::vetted::rows::prior_code` meets its contract. Assumes nothing.
+-- `codes::prior_code` meets its contract. Assumes nothing.
 use borrow.Author.Tests.{eq-eqb, ne-eqb}
 use Rattle.laws.specs.Codes.{priorCode}
-use Rattle.outcomes.proofs.vetted.rows.prior_code.Statement.{statement}
-use Rattle.outcomes.proofs.vetted.rows.prior_code.Tie as tie
+use Rattle.codes.proofs.prior_code.Statement.{statement}
+use Rattle.codes.proofs.prior_code.Tie as tie
 
 returns : tie.Need-returns
 unfolding priorCode

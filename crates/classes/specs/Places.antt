@@ -1,37 +1,18 @@
--- The code of two values under a base term (document 01, "Compare"; codes as in laws/specs/Codes.antt).
+-- What is known of a base term and its values; EXPLICIT by places among the ends of the edges (document 01, "Better, term by
+-- term").
 use mathlib.Core.Path.{_≡_}
 use mathlib.Core.Bool.{Bool, true, false, cond}
 use mathlib.Core.List.{List}
 use Prim.Native.Nat.{ℕ, _+_, _*_, _-_, _≤_}
-use lib.Dec.{ltb, eqb}
+use lib.Dec.{eqb}
 use lib.IntN.{ℤ}
-use Rattle.model.specs.declared.{Value.Value, BaseTerm.BaseTerm}
+use Rattle.model.specs.declared.{BaseTerm.BaseTerm}
 use Rattle.model.specs.declared.BaseTerm.the-variants.{Explicit}
-use Rattle.model.specs.Bytes.{eqZ}
-use Rattle.model.specs.Better.{betterValue}
 use Rattle.laws.specs.Sound.{soundBase}
 use Rattle.laws.specs.Runs.{valuesBetween}
-use Rattle.laws.specs.Outcome.{ofTests}
-use Rattle.laws.specs.Codes.{codeOf}
 use Rattle.terms.specs.Run.{Values}
 use Rattle.terms.specs.Closure.{cellAt}
 use Rattle.values.specs.Prepared.{Numbers, ReachedFrom}
-
--- The code of three tests: same, first better, second better.
-unfoldable pub testsCode : Bool → Bool → Bool → ℕ
-testsCode same first second = codeOf (ofTests same first second)
-
--- The code of x against y.
-unfoldable pub valueCode : BaseTerm → List Value → ℤ → ℤ → ℕ
-valueCode b values x y = testsCode (eqZ x y) (betterValue b values y x) (betterValue b values x y)
-
--- The same for two values that are not the same.
-unfoldable pub apartCode : BaseTerm → List Value → ℤ → ℤ → ℕ
-apartCode b values x y = testsCode false (betterValue b values y x) (betterValue b values x y)
-
--- The same by rank: the lower is better.
-unfoldable pub rankCode : ℕ → ℕ → ℕ
-rankCode x y = testsCode false (ltb x y) (ltb y x)
 
 -- What is known of base term k, whose values are the records from k + 1 to before e.
 pub record BaseTermAt (table : List ℕ) (numbers : List ℤ) (reach : List (List Bool)) (k e : ℕ) (b : BaseTerm)

@@ -1,10 +1,10 @@
--- `base_terms::vetted::code::class_neg` meets its contract. Assumes nothing.
+-- `classes::vetted::classes::class_neg` meets its contract. Assumes nothing.
 use mathlib.Core.Path.{_∙_, sym}
 use mir.Facts.{toZ-ofZ}
 use borrow.Author.Needs.{needs}
 use Rattle.laws.specs.Ranks.{rankNeg}
-use Rattle.base_terms.proofs.vetted.code.class_neg.Statement.{statement}
-use Rattle.base_terms.proofs.vetted.code.class_neg.Tie as tie
+use Rattle.classes.proofs.vetted.classes.class_neg.Statement.{statement}
+use Rattle.classes.proofs.vetted.classes.class_neg.Tie as tie
 
 in-role-requires : tie.Need-in-role-requires
 in-role-requires c κs = search needs
