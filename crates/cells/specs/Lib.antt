@@ -1,0 +1,4 @@
+-- Two rows in one group, by the columns that they have; the cells of rows by block.
+pub mod Group
+pub mod Values
+pub mod Places

@@ -1,0 +1,121 @@
+-- Entries by block: the entry of row b * 64 + j at stretch h stands at b * size + h * 64 + j, in block b, in its stretch h,
+-- at lane j. `size` is what each block takes. Assumes nothing.
+use mathlib.Core.Path.{_≡_, sym, ap, ap₂, _∙_, subst}
+use mathlib.Core.Logic.{⊎-elim}
+use mathlib.Core.List.{List}
+use Prim.Native.Nat.{ℕ, _+_, _*_, _/_, _%_, _<_, _≤_}
+use native.Mathlib.Nat.{mul-le-mul-right, suc-mul}
+use native.Mathlib.Omega.{arith}
+use lib.Dec.{ltb}
+use lib.ListN.{length, getD, set, drop, length-drop}
+use lib.Seq.{getD-set-same, getD-set-other, getD-take, getD-drop, length-take-le}
+use lib.IntN.{ℤ, pos}
+use borrow.Author.Tests.{ltb-true, ltb-false}
+use Rattle.model.specs.Better.{cell}
+use Rattle.model.specs.Query.{rowAt}
+use Rattle.laws.specs.Bools.{on-or-off}
+use Rattle.laws.specs.Search.{lt-suc-cases}
+use Rattle.cells.specs.Values.{Room}
+
+-- ---- places
+
+-- A run has the whole of each of its rows.
+pub row-in : (n columns size : ℕ) → size ≡ n * columns → (i : ℕ) → i < n → i * columns + columns ≤ size
+row-in n columns size e i h = let m = mul-le-mul-right columns h in omega (arith, e, m, suc-mul i columns)
+
+-- A row of the run has the run's columns.
+pub row-length : (columns : ℕ) (rows : List ℤ) (n : ℕ) → length rows ≡ n * columns → (i : ℕ) → i < n
+    → length (rowAt columns rows i) ≡ columns
+unfolding rowAt
+row-length columns rows n e i h =
+    length-take-le columns (drop (i * columns) rows)
+    (rw (length-drop (i * columns) rows) (omega (arith, row-in n columns (length rows) e i h)))
+
+-- The cell of row i in column c, in the run.
+pub cell-run : (columns : ℕ) (rows : List ℤ) (i c : ℕ) → c < columns
+    → getD rows (i * columns + c) (pos 0) ≡ cell (rowAt columns rows i) c
+unfolding cell rowAt
+cell-run columns rows i c h =
+    sym (getD-take columns (drop (i * columns) rows) c (pos 0) h ∙ getD-drop (i * columns) rows c (pos 0))
+
+-- The entry of a row has a place.
+pub place-in : (n size : ℕ) {l : ℕ} → Room n size l → (i h : ℕ) → i < n → h * 64 + 64 ≤ size
+    → i / 64 * size + h * 64 + i % 64 < l
+place-in n size room i h k w = let r = room .each (i / 64) (omega (arith, k)) in omega (arith, r, w)
+
+apart-block : (size b b′ r r′ : ℕ) → r < size → b < b′ → b * size + r ≡ b′ * size + r′ → ⊥
+apart-block size b b′ r r′ h l e = let m = mul-le-mul-right size l in omega (arith, h, e, m, suc-mul b size)
+
+-- Different rows or stretches have different places.
+pub place-apart : (size b h j b′ h′ j′ : ℕ) → j < 64 → j′ < 64 → h * 64 + 64 ≤ size → h′ * 64 + 64 ≤ size
+    → b * size + h * 64 + j ≡ b′ * size + h′ * 64 + j′ → (h ≡ h′) × (b * 64 + j ≡ b′ * 64 + j′)
+place-apart size b h j b′ h′ j′ k k′ w w′ e =
+    ⊎-elim
+    (λ t. absurd
+    (apart-block size b b′ (h * 64 + j) (h′ * 64 + j′) (omega (arith, k, w)) (ltb-true b b′ t) (omega (arith, e))))
+    (λ t. ⊎-elim
+    (λ u. absurd
+    (apart-block size b′ b (h′ * 64 + j′) (h * 64 + j) (omega (arith, k′, w′)) (ltb-true b′ b u) (omega (arith, e))))
+    (λ u. same (omega (arith, ltb-false b b′ t, ltb-false b′ b u)))
+    (on-or-off (ltb b′ b)))
+    (on-or-off (ltb b b′))
+  where
+    same : b ≡ b′ → (h ≡ h′) × (b * 64 + j ≡ b′ * 64 + j′)
+    same q =
+        let f : b * size ≡ b′ * size = ap (λ (x : ℕ). x * size) q in
+        (omega (arith, e, f, k, k′), omega (arith, e, f, k, k′, q))
+
+-- ---- a loop that fills the stretches one after the other, each by rows
+
+-- `Q h r x` says of x that it is right for row r at stretch h. The stretches below c are right for n rows, and stretch c
+-- for the rows below i.
+pub record Placed {A : Type 0} (z : A) (Q : ℕ → ℕ → A → Type 0) (size n c i : ℕ) (list : List A) : Type 0 where
+  pub below : (b j h : ℕ) → j < 64 → b * 64 + j < n → h < c → Q h (b * 64 + j) (getD list (b * size + h * 64 + j) z)
+  pub here : (b j : ℕ) → j < 64 → b * 64 + j < i → Q c (b * 64 + j) (getD list (b * size + c * 64 + j) z)
+
+module _ {A : Type 0} (z : A) (Q : ℕ → ℕ → A → Type 0) (size n c : ℕ) where
+  -- No row yet.
+  pub placed-none : (list : List A)
+      → ((b j h : ℕ) → j < 64 → b * 64 + j < n → h < c → Q h (b * 64 + j) (getD list (b * size + h * 64 + j) z))
+      → Placed z Q size n c 0 list
+  placed-none list f = record { below = f; here = λ b j k l. absurd (omega (arith, l)) }
+
+  -- The entry of row i is stored.
+  pub placed-store : (i : ℕ) (list : List A) (v : A) → Room n size (length list) → i < n → c * 64 + 64 ≤ size → Q c i v
+      → Placed z Q size n c i list → Placed z Q size n c (i + 1) (set list (i / 64 * size + c * 64 + i % 64) v)
+  placed-store i list v room l w q p =
+      record {
+        below = λ b j h k m o. subst (Q h (b * 64 + j))
+            (sym (other b j h k (omega (arith, o, w)) (λ e f. omega (arith, e, o)))) (p .below b j h k m o);
+        here = λ b j k m. ⊎-elim
+            (λ o. subst (Q c (b * 64 + j)) (sym (other b j c k w (λ e f. omega (arith, f, o)))) (p .here b j k o))
+            (λ o. at b j k o)
+            (lt-suc-cases (b * 64 + j) i (omega (arith, m)));
+      }
+    where
+      other : (b j h : ℕ) → j < 64 → h * 64 + 64 ≤ size → (h ≡ c → b * 64 + j ≡ i → ⊥)
+          → getD (set list (i / 64 * size + c * 64 + i % 64) v) (b * size + h * 64 + j) z
+          ≡ getD list (b * size + h * 64 + j) z
+      other b j h k u apart =
+          getD-set-other list (i / 64 * size + c * 64 + i % 64) (b * size + h * 64 + j) v z
+          (λ e. let d = place-apart size b h j (i / 64) c (i % 64) k (omega arith) u w e in
+          apart (d .0) (omega (arith, d .1)))
+
+      at : (b j : ℕ) → j < 64 → b * 64 + j ≡ i
+          → Q c (b * 64 + j) (getD (set list (i / 64 * size + c * 64 + i % 64) v) (b * size + c * 64 + j) z)
+      at b j k e =
+          let s = getD-set-same list (i / 64 * size + c * 64 + i % 64) v z (place-in n size room i c l w) in
+          let f : i / 64 ≡ b = omega (arith, e, k) in
+          let g : i % 64 ≡ j = omega (arith, e, k) in
+          let y : i / 64 * size + c * 64 + i % 64 ≡ b * size + c * 64 + j =
+          ap₂ (λ (x m : ℕ). x * size + c * 64 + m) f g in
+          subst (λ (r : ℕ). Q c r (getD (set list (i / 64 * size + c * 64 + i % 64) v) (b * size + c * 64 + j) z)) (sym e)
+          (subst (Q c i) (sym (ap (λ (x : ℕ). getD (set list (i / 64 * size + c * 64 + i % 64) v) x z) (sym y) ∙ s)) q)
+
+  -- All rows.
+  pub placed-all : (list : List A) → Placed z Q size n c n list
+      → (b j h : ℕ) → j < 64 → b * 64 + j < n → h < c + 1 → Q h (b * 64 + j) (getD list (b * size + h * 64 + j) z)
+  placed-all list p b j h k l m =
+      ⊎-elim (λ o. p .below b j h k l o)
+      (λ o. subst (λ (x : ℕ). Q x (b * 64 + j) (getD list (b * size + x * 64 + j) z)) (sym o) (p .here b j k l))
+      (lt-suc-cases h c (omega (arith, m)))

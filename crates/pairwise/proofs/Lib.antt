@@ -1,0 +1,3 @@
+-- What the proofs of the direct engine share.
+pub mod Parts
+pub mod Grouped

@@ -1,0 +1,23 @@
+-- `pairwise::vetted::meetings::round_or_skip` meets its contract. Assumes nothing.
+use borrow.Author.Needs.{needs}
+use Rattle.elimination.specs.Rounds.{turn-gone}
+use Rattle.pairwise.proofs.vetted.meetings.round_or_skip.Statement.{statement}
+use Rattle.pairwise.proofs.vetted.meetings.round_or_skip.Tie as tie
+
+slice-read-if1 : tie.Need-slice-read-if1
+slice-read-if1 c = search needs
+
+round-requires : tie.Need-round-requires
+round-requires c κs = search needs
+
+same-length : tie.Need-same-length
+same-length c = search needs
+
+returns : tie.Need-returns
+returns c = search needs
+
+returns-2 : tie.Need-returns-2
+returns-2 c = turn-gone _ _ _ _ (c .if1 .left) (c .before .before .before .before .pre .3)
+
+pub round-or-skip-spec : {M : Type 1} → statement M
+round-or-skip-spec = tie.close (tie.spec slice-read-if1 round-requires same-length returns returns-2)

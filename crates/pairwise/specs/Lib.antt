@@ -1,0 +1,2 @@
+-- What the direct engine compares.
+pub mod Pairs

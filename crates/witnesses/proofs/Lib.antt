@@ -1,0 +1,2 @@
+-- What the search for a witness has found.
+pub mod Sought

@@ -1,0 +1,82 @@
+-- `witnesses::vetted::first_better` meets its contract. Assumes nothing.
+use mathlib.Core.Path.{_∙_}
+use Prim.Native.Nat.{_-_, _≤_}
+use native.Mathlib.Nat.{le-antisymm}
+use native.Mathlib.Omega.{arith}
+use borrow.Author.Needs.{needs}
+use Rattle.model.specs.Term.{termAt}
+use Rattle.model.specs.Query.{beatsIn}
+use Rattle.witnesses.proofs.Sought.{Sought, listed-row, sought-start, sought-more, sought-hit, sought-end}
+use Rattle.witnesses.proofs.vetted.first_better.Statement.{statement}
+use Rattle.witnesses.proofs.vetted.first_better.Tie as tie
+
+abbrev Inv-loop : tie.InvT-loop
+Inv-loop table numbers ends reach term group columns rows n list m i z₀ z =
+    (z ≤ m) × Sought (beatsIn (termAt table term) columns rows group) n i z
+
+abbrev μ-loop : tie.MeasureT-loop
+μ-loop table numbers ends reach term group columns rows n list m i z₀ z = m - z
+
+loop-holds : tie.Need-loop-holds Inv-loop μ-loop
+loop-holds c = (search needs, sought-start _ _ _)
+
+mul-j : tie.Need-mul-j Inv-loop μ-loop
+mul-j c = search needs
+
+shared-slice-read-j : tie.Need-shared-slice-read-j Inv-loop μ-loop
+shared-slice-read-j c = search needs
+
+cast-beats : tie.Need-cast-beats Inv-loop μ-loop
+cast-beats c = omega (arith, c .shared-slice-known3 .given (c .before .before .loop .z))
+
+beats-requires : tie.Need-beats-requires Inv-loop μ-loop
+beats-requires c κs =
+    let p = c .before .before .before .before .before .pre in
+    (p .0, listed-row _ _ _ _ (p .3) (omega arith), p .4)
+
+returns : tie.Need-returns Inv-loop μ-loop
+returns c =
+    let r = c .before in
+    let s = r .before .before .before in
+    let p = s .before .before .before .pre in
+    sought-hit _ _ _ _ _ (p .3) (s .loop .inv .1) (omega arith) (r .beats .ensures) (c .if1 .taken)
+
+add-z : tie.Need-add-z Inv-loop μ-loop
+add-z c = search needs
+
+loop-less : tie.Need-loop-less Inv-loop μ-loop
+loop-less c = search needs
+
+loop-again : tie.Need-loop-again Inv-loop μ-loop
+loop-again c =
+    let r = c .before in
+    let s = r .before .before .before in
+    let p = s .before .before .before .pre in
+    (search needs, sought-more _ _ _ _ _ (p .3) (s .loop .inv .1) (r .beats .ensures) (c .if1 .left))
+
+cast-result : tie.Need-cast-result Inv-loop μ-loop
+cast-result c = omega (arith, c .before .before .before .before .pre .0 .few)
+
+returns-2 : tie.Need-returns-2 Inv-loop μ-loop
+returns-2 c =
+    let v = c .before .loop .inv in
+    let q = le-antisymm (v .0) (c .loop-test .left) in
+    sought-end _ _ _ _ (q ∙ c .before .before .before .before .pre .1) (v .1)
+
+pub first-better-spec : {M : Type 1} → statement M
+first-better-spec =
+    tie.close
+    (tie.spec
+    Inv-loop
+    μ-loop
+    loop-holds
+    mul-j
+    shared-slice-read-j
+    cast-beats
+    beats-requires
+    returns
+    add-z
+    loop-less
+    loop-again
+    cast-result
+    returns-2)

@@ -1,0 +1,67 @@
+-- `witnesses::vetted::write_answers` meets its contract. Assumes nothing.
+use mathlib.Core.Path.{_≡_, refl}
+use Prim.Native.Nat.{_-_, _≤_}
+use native.Mathlib.Nat.{le-antisymm}
+use lib.ListN.{length, length-set}
+use borrow.Author.Needs.{needs}
+use Rattle.model.specs.Search.{fill}
+use Rattle.model.specs.Term.{termAt}
+use Rattle.model.specs.Query.{answer, beatsIn}
+use Rattle.laws.specs.Fill.{fill-step}
+use Rattle.witnesses.proofs.vetted.write_answers.Statement.{statement}
+use Rattle.witnesses.proofs.vetted.write_answers.Tie as tie
+
+abbrev Inv-loop : tie.InvT-loop
+Inv-loop table numbers ends reach term group columns rows n gone kept m answers₀ row₀ answers row =
+    (row ≤ n) × (length answers ≡ length answers₀)
+    × (answers ≡ fill row (answer n (beatsIn (termAt table term) columns rows group)) answers₀)
+
+abbrev μ-loop : tie.MeasureT-loop
+μ-loop table numbers ends reach term group columns rows n gone kept m answers₀ row₀ answers row = n - row
+
+loop-holds : tie.Need-loop-holds Inv-loop μ-loop
+unfolding fill
+loop-holds c = (search needs, refl, refl)
+
+entry-requires : tie.Need-entry-requires Inv-loop μ-loop
+entry-requires c κs = search needs
+
+mul-answers : tie.Need-mul-answers Inv-loop μ-loop
+mul-answers c = search needs
+
+slice-write-answers : tie.Need-slice-write-answers Inv-loop μ-loop
+slice-write-answers c = search needs
+
+add-row : tie.Need-add-row Inv-loop μ-loop
+add-row c = search needs
+
+loop-less : tie.Need-loop-less Inv-loop μ-loop
+loop-less c = search needs
+
+loop-again : tie.Need-loop-again Inv-loop μ-loop
+loop-again c =
+    let v = c .before .before .loop .inv in
+    (search needs, simp length-set (v .1), rw (v .2, c .entry .ensures) (fill-step _ _ _))
+
+same-length : tie.Need-same-length Inv-loop μ-loop
+same-length c = search needs
+
+returns : tie.Need-returns Inv-loop μ-loop
+returns c =
+    let q = le-antisymm (c .before .loop .inv .0) (c .loop-test .left) in rw q at (c .before .loop .inv .2)
+
+pub write-answers-spec : {M : Type 1} → statement M
+write-answers-spec =
+    tie.close
+    (tie.spec
+    Inv-loop
+    μ-loop
+    loop-holds
+    entry-requires
+    mul-answers
+    slice-write-answers
+    add-row
+    loop-less
+    loop-again
+    same-length
+    returns)

@@ -1,0 +1,3 @@
+-- The list of kept rows, and its laws.
+pub mod Kept
+pub mod Listing

@@ -1,0 +1,2 @@
+// The answers of the direct engine.
+pub mod vetted;

@@ -1,0 +1,158 @@
+// The answers: a kept row's own number, and for a dropped row the first of the kept rows that is better. No public calls: each
+// asks what was found before. `gone` has 0 for a row that is not gone; `kept` lists the kept rows in order.
+use pairwise::vetted::pair::beats;
+ghost use mathlib.Core.Path.{_≡_};
+ghost use Prim.Native.Nat.{_<_, _≤_};
+ghost use lib.Dec.{eqb};
+ghost use lib.ListN.{length, getD};
+ghost use Rattle.model.specs.Search.{countBelow, fill};
+ghost use Rattle.model.specs.Term.{termAt};
+ghost use Rattle.model.specs.Query.{kept, keptCount, answer, beatsIn};
+ghost use Rattle.pairwise.specs.Pairs.{Comparable};
+ghost use Rattle.witnesses.specs.Kept.{Listed, KeptRows, lowestKept};
+
+// Lists the rows that are not gone, in order. Returns how many there are.
+pub fn list_kept(n: usize, gone: &[u8], kept: &mut [u16]) -> usize
+    requires { ⌜ (n ≤ 1024) × (n ≤ length (now gone)) × (n ≤ length (now kept)) ⌝ }
+    ensures { λ r. ⌜ (r ≡ countBelow n (λ j. eqb (getD (now (gone .entry)) j 0) 0))
+        × Listed (λ j. eqb (getD (now (gone .entry)) j 0) 0) n (now (kept .exit)) ⌝ }
+{
+    let mut m = 0;
+    let mut i = 0;
+    while i < n {
+        if gone[i] == 0 {
+            kept[m] = i as u16;
+            m += 1;
+        }
+        i += 1;
+    }
+    m
+}
+
+// Writes an entry for each of the n rows.
+pub fn write_answers(
+    table: &[u8],
+    numbers: &[i32; 256],
+    ends: &[u8; 128],
+    reach: &[[bool; 32]; 256],
+    term: u8,
+    group: u8,
+    columns: usize,
+    rows: &[i32],
+    n: usize,
+    gone: &[u8],
+    kept: &[u16],
+    m: usize,
+    answers: &mut [u16],
+)
+    requires { ⌜ Comparable (now table) (now numbers) (now ends) (now reach) term columns (now rows) n
+        × (n ≤ length (now gone))
+        × KeptRows (beatsIn (termAt (now table) term) columns (now rows) group) n m (now gone) (now kept)
+        × (n ≤ length (now answers)) ⌝ }
+    ensures { λ _. ⌜ now (answers .exit)
+        ≡ fill n (answer n (beatsIn (termAt (now (table .entry)) term) columns (now (rows .entry)) group))
+        (now (answers .entry)) ⌝ }
+{
+    let mut row = 0;
+    while row < n {
+        answers[row] = entry(
+            table,
+            numbers,
+            ends,
+            reach,
+            term,
+            group,
+            columns,
+            rows,
+            n,
+            gone,
+            kept,
+            m,
+            row,
+        );
+        row += 1;
+    }
+}
+
+// Row i's entry.
+fn entry(
+    table: &[u8],
+    numbers: &[i32; 256],
+    ends: &[u8; 128],
+    reach: &[[bool; 32]; 256],
+    term: u8,
+    group: u8,
+    columns: usize,
+    rows: &[i32],
+    n: usize,
+    gone: &[u8],
+    kept: &[u16],
+    m: usize,
+    i: usize,
+) -> u16
+    requires { ⌜ Comparable (now table) (now numbers) (now ends) (now reach) term columns (now rows) n
+        × (n ≤ length (now gone))
+        × KeptRows (beatsIn (termAt (now table) term) columns (now rows) group) n m (now gone) (now kept) × (i < n) ⌝ }
+    ensures { λ r. ⌜ r ≡ answer n (beatsIn (termAt (now (table .entry)) term) columns (now (rows .entry)) group) i ⌝ }
+{
+    if gone[i] == 0 {
+        return i as u16;
+    }
+    first_better(
+        table,
+        numbers,
+        ends,
+        reach,
+        term,
+        group,
+        columns,
+        rows,
+        n,
+        kept,
+        m,
+        i,
+    )
+}
+
+// The first of the m kept rows that is better than row i, or n.
+fn first_better(
+    table: &[u8],
+    numbers: &[i32; 256],
+    ends: &[u8; 128],
+    reach: &[[bool; 32]; 256],
+    term: u8,
+    group: u8,
+    columns: usize,
+    rows: &[i32],
+    n: usize,
+    list: &[u16],
+    m: usize,
+    i: usize,
+) -> u16
+    requires { ⌜ Comparable (now table) (now numbers) (now ends) (now reach) term columns (now rows) n
+        × (m ≡ keptCount n (beatsIn (termAt (now table) term) columns (now rows) group)) × (m ≤ length (now list))
+        × Listed (kept n (beatsIn (termAt (now table) term) columns (now rows) group)) n (now list) × (i < n) ⌝ }
+    ensures { λ r. ⌜ r ≡ lowestKept n (beatsIn (termAt (now (table .entry)) term) columns (now (rows .entry)) group) i ⌝ }
+{
+    let mut z = 0;
+    while z < m {
+        let j = list[z];
+        if beats(
+            table,
+            numbers,
+            ends,
+            reach,
+            term,
+            group,
+            columns,
+            rows,
+            n,
+            j as usize,
+            i,
+        ) {
+            return j;
+        }
+        z += 1;
+    }
+    n as u16
+}
