@@ -1,0 +1,4 @@
+pub mod Lanes
+pub mod Coded
+pub mod OfBase
+pub mod OfCompound

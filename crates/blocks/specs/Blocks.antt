@@ -1,0 +1,55 @@
+-- What the engine by parts prepares once per query, and the codes of row i against the rows of block b. Row b * 64 + j is
+-- lane j of block b.
+use mathlib.Core.Path.{_≡_}
+use mathlib.Core.Bool.{Bool, true, false}
+use mathlib.Core.List.{List}
+use Prim.Native.Nat.{ℕ, _+_, _*_, _<_, _≤_}
+use lib.IntN.{ℤ}
+use lib.ListN.{getD, length}
+use Rattle.model.specs.declared.{CompoundTerm.CompoundTerm, Pair.Pair}
+use Rattle.model.specs.declared.CompoundTerm.the-variants.{Joined, Dual}
+use Rattle.model.specs.Record.{recordAt, isTerm}
+use Rattle.model.specs.Term.{termAt}
+use Rattle.model.specs.Query.{rowAt}
+use Rattle.laws.specs.Codes.{code, joinedCode}
+use Rattle.laws.specs.Taken.{TakenTerm}
+use Rattle.values.specs.Prepared.{Numbers, RunEnds, Reached}
+use Rattle.cells.specs.Values.{Room, Valued}
+use Rattle.ranks.specs.Beneath.{Marked}
+use Rattle.ranks.specs.Ranked.{Ranked}
+use Rattle.lanes.specs.Lanes.{turnedLane}
+
+-- A query's table, rows, ranks and values.
+pub record Ready (table : List ℕ) (numbers : List ℤ) (ends : List ℕ) (reach : List (List Bool)) (marks : List Bool)
+    (term columns : ℕ) (rows : List ℤ) (n : ℕ) (ranks values : List ℤ) : Type 0 where
+  pub taken : TakenTerm table columns term
+  pub prepared : Numbers table numbers
+  pub runs : RunEnds table ends
+  pub reached : Reached table ends reach
+  pub marked : Marked table term marks
+  pub run : length rows ≡ n * columns
+  pub few : n ≤ 1024
+  pub ranked : Ranked table ends marks columns rows n (term + 1) ranks
+  pub rankRoom : Room n 8192 (length ranks)
+  pub valued : Valued columns rows n columns values
+  pub valueRoom : Room n 512 (length values)
+
+-- A row, a block of rows, and a record beneath the asked term.
+pub record AtRecord (marks : List Bool) (term n i b k : ℕ) : Type 0 where
+  pub row : i < n
+  pub block : b * 64 < n
+  pub most : k ≤ term
+  pub marked : getD marks k false ≡ true
+
+-- The marked term records below k hold their codes: 64 for each, in record order.
+pub record Coded (table : List ℕ) (marks : List Bool) (columns : ℕ) (rows : List ℤ) (n i b k : ℕ) (codes : List ℕ) : Type 0 where
+  pub each : (h j : ℕ) → h < k → getD marks h false ≡ true → isTerm (recordAt table h) ≡ true → j < 64 → b * 64 + j < n
+      → getD codes (h * 64 + j) 0 ≡ code (termAt table h) (rowAt columns rows i) (rowAt columns rows (b * 64 + j))
+
+-- A compound's code in lane j, from its parts' codes.
+unfoldable pub joinedLane : Pair → List ℕ → ℕ → ℕ → ℕ → ℕ
+joinedLane op codes l r j = joinedCode op (getD codes (l + j) 0) (getD codes (r + j) 0)
+
+abbrev pub compoundLane : CompoundTerm → List ℕ → ℕ → ℕ
+compoundLane (Joined op p q) codes j = joinedLane op codes (p * 64) (q * 64) j
+compoundLane (Dual p) codes j = turnedLane codes (p * 64) j

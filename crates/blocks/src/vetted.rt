@@ -1,0 +1,141 @@
+// The codes of row i against the rows of block b under each record beneath the asked term, upward. A base record's come from
+// ranks and values, a compound's from its parts' codes and nothing else. No public calls: each asks what was prepared before.
+use crate::vetted::base::base_codes;
+use lanes::vetted::compound::or_lanes;
+use lanes::vetted::compound::prior_lanes;
+use lanes::vetted::compound::turned_lanes;
+use model::CompoundTerm;
+use model::Pair;
+use model::Record;
+use values::vetted::lookup::decoded;
+ghost use Prim.Native.Nat.{_+_, _*_, _<_, _≤_};
+ghost use lib.ListN.{length};
+ghost use Rattle.lanes.specs.Wrote.{Wrote};
+ghost use Rattle.ranks.specs.Beneath.{OfParts};
+ghost use Rattle.blocks.specs.Blocks.{Ready, AtRecord, Coded, joinedLane, compoundLane};
+
+mod base;
+
+// The codes of the records up to the asked one.
+pub fn block_codes(
+    table: &[u8],
+    numbers: &[i32; 256],
+    ends: &[u8; 128],
+    reach: &[[bool; 32]; 256],
+    marks: &[bool; 128],
+    term: u8,
+    columns: usize,
+    rows: &[i32],
+    n: usize,
+    ranks: &[i32],
+    values: &[i32],
+    i: usize,
+    b: usize,
+    codes: &mut [u8],
+)
+    requires { ⌜ Ready (now table) (now numbers) (now ends) (now reach) (now marks) term columns (now rows) n (now ranks) (now values) × (i < n) × (b * 64 < n) × (8192 ≤ length (now codes)) ⌝ }
+    ensures { λ _. ⌜ Coded (now (table .entry)) (now (marks .entry)) columns (now (rows .entry)) n i b (term + 1) (now (codes .exit)) ⌝ }
+{
+    let mut k = 0u8;
+    while k <= term {
+        let at = k as usize;
+        if marks[at] {
+            record_codes(
+                table,
+                numbers,
+                ends,
+                reach,
+                marks,
+                term,
+                columns,
+                rows,
+                n,
+                ranks,
+                values,
+                i,
+                b,
+                k,
+                codes,
+            );
+        }
+        k += 1;
+    }
+}
+
+// The codes of record k, from those of the records below.
+fn record_codes(
+    table: &[u8],
+    numbers: &[i32; 256],
+    ends: &[u8; 128],
+    reach: &[[bool; 32]; 256],
+    marks: &[bool; 128],
+    term: u8,
+    columns: usize,
+    rows: &[i32],
+    n: usize,
+    ranks: &[i32],
+    values: &[i32],
+    i: usize,
+    b: usize,
+    k: u8,
+    codes: &mut [u8],
+)
+    requires { ⌜ Ready (now table) (now numbers) (now ends) (now reach) (now marks) term columns (now rows) n (now ranks) (now values) × AtRecord (now marks) term n i b k × (8192 ≤ length (now codes)) × Coded (now table) (now marks) columns (now rows) n i b k (now codes) ⌝ }
+    ensures { λ _. ⌜ Coded (now (table .entry)) (now (marks .entry)) columns (now (rows .entry)) n i b (k + 1) (now (codes .exit)) ⌝ }
+{
+    match decoded(table, numbers, k) {
+        Record::Value(_) => {}
+        Record::Base(column, t) => {
+            let at = k as usize;
+            let c = column as usize;
+            let x = ranks[i / 64 * 8192 + at * 64 + i % 64];
+            let v = values[i / 64 * 512 + c * 64 + i % 64];
+            let e = ends[at];
+            base_codes(
+                table,
+                reach,
+                k,
+                e,
+                t,
+                ranks,
+                b * 8192 + at * 64,
+                x,
+                values,
+                b * 512 + c * 64,
+                v,
+                codes,
+            );
+        }
+        Record::Compound(c) => compound_codes(c, codes, k),
+        Record::Unknown => {}
+    }
+}
+
+// The codes of a compound, from its parts' codes and nothing else.
+fn compound_codes(c: CompoundTerm, codes: &mut [u8], k: u8)
+    requires { ⌜ (k * 64 + 64 ≤ length (now codes)) × OfParts (λ p. p < k) c ⌝ }
+    ensures { λ _. ⌜ Wrote 0 (compoundLane c (now (codes .entry))) (k * 64) 64 (now (codes .entry)) (now (codes .exit)) ⌝ }
+{
+    let a = (k as usize) * 64;
+    match c {
+        CompoundTerm::Joined(op, p, q) => joined_codes(
+            op,
+            codes,
+            a,
+            (p as usize) * 64,
+            (q as usize) * 64,
+        ),
+        CompoundTerm::Dual(p) => turned_lanes(codes, a, (p as usize) * 64),
+    }
+}
+
+fn joined_codes(op: Pair, codes: &mut [u8], a: usize, l: usize, r: usize)
+    requires { ⌜ (a + 64 ≤ length (now codes)) × (l + 64 ≤ a) × (r + 64 ≤ a) ⌝ }
+    ensures { λ _. ⌜ Wrote 0 (joinedLane op (now (codes .entry)) l r) a 64 (now (codes .entry)) (now (codes .exit)) ⌝ }
+{
+    match op {
+        Pair::Pareto => or_lanes(codes, a, l, r),
+        Pair::Prior => prior_lanes(codes, a, l, r),
+        Pair::Both => or_lanes(codes, a, l, r),
+    }
+}

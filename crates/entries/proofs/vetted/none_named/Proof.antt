@@ -1,0 +1,61 @@
+-- `entries::vetted::none_named` meets its contract: the entries 1024 stand from row 0 up. Assumes nothing.
+use mathlib.Core.Path.{_≡_, refl}
+use Prim.Native.Nat.{_-_, _≤_}
+use native.Mathlib.Nat.{le-antisymm}
+use native.Mathlib.Omega.{arith}
+use lib.ListN.{length, length-set}
+use borrow.Author.Needs.{needs}
+use Rattle.lanes.specs.Wrote.{Wrote}
+use Rattle.lanes.specs.Writes.{wrote-none, wrote-head}
+use Rattle.entries.proofs.vetted.none_named.Statement.{statement}
+use Rattle.entries.proofs.vetted.none_named.Tie as tie
+
+abbrev Inv-loop : tie.InvT-loop
+Inv-loop n by₀ j₀ by j = (j ≤ n) × (length by ≡ length by₀) × Wrote 0 (λ i. 1024) 0 j by₀ by
+
+abbrev μ-loop : tie.MeasureT-loop
+μ-loop n by₀ j₀ by j = n - j
+
+loop-holds : tie.Need-loop-holds Inv-loop μ-loop
+loop-holds c = (search needs, refl, wrote-none _ _ _ _)
+
+mul-by : tie.Need-mul-by Inv-loop μ-loop
+mul-by c = search needs
+
+slice-write-by : tie.Need-slice-write-by Inv-loop μ-loop
+slice-write-by c = search needs
+
+add-j : tie.Need-add-j Inv-loop μ-loop
+add-j c = search needs
+
+loop-less : tie.Need-loop-less Inv-loop μ-loop
+loop-less c = search needs
+
+loop-again : tie.Need-loop-again Inv-loop μ-loop
+loop-again c =
+    let v = c .before .loop .inv in
+    (omega arith, simp length-set (v .1), wrote-head _ _ _ _ _ (v .2) (omega arith) refl)
+
+same-length : tie.Need-same-length Inv-loop μ-loop
+same-length c = search needs
+
+returns : tie.Need-returns Inv-loop μ-loop
+returns c =
+    let v = c .before .loop .inv in
+    let q = le-antisymm (v .0) (c .loop-test .left) in
+    rw q at (v .2)
+
+pub none-named-spec : {M : Type 1} → statement M
+none-named-spec =
+    tie.close
+    (tie.spec
+    Inv-loop
+    μ-loop
+    loop-holds
+    mul-by
+    slice-write-by
+    add-j
+    loop-less
+    loop-again
+    same-length
+    returns)

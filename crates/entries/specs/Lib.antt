@@ -1,0 +1,3 @@
+-- The buffers at the start and the answers at the end.
+pub mod Entry
+pub mod Answers

@@ -1,0 +1,40 @@
+// What a row makes of the lit lanes that it beats: code 1.
+ghost use mathlib.Core.Path.{_≡_};
+ghost use mathlib.Core.Bool.{cond};
+ghost use Prim.Native.Nat.{_+_, _≤_};
+ghost use lib.ListN.{length};
+ghost use Rattle.lanes.specs.Wrote.{Wrote};
+ghost use Rattle.live.specs.Live.{goneLane, nameLane};
+
+// Their rows are gone.
+pub fn gone_lanes(gone: &mut [u8], at: usize, live: &[u8], codes: &[u8], top: usize)
+    requires { ⌜ (at + 64 ≤ length (now gone)) × (64 ≤ length (now live)) × (top + 64 ≤ length (now codes)) ⌝ }
+    ensures { λ _. ⌜ Wrote 0 (goneLane (now (gone .entry)) at (now (live .entry)) (now (codes .entry)) top) at 64 (now (gone .entry)) (now (gone .exit)) ⌝ }
+{
+    let mut j = 0;
+    while j < 64 {
+        gone[at + j] = (!(gone[at + j] == 0) | ((live[j] == 1) & (codes[top + j] == 1))) as u8;
+        j += 1;
+    }
+}
+
+// Row i is named for their rows.
+pub fn name_lanes(by: &mut [u16], at: usize, live: &[u8], codes: &[u8], top: usize, i: u16)
+    requires { ⌜ (at + 64 ≤ length (now by)) × (64 ≤ length (now live)) × (top + 64 ≤ length (now codes)) ⌝ }
+    ensures { λ _. ⌜ Wrote 0 (nameLane (now (by .entry)) at (now (live .entry)) (now (codes .entry)) top i) at 64 (now (by .entry)) (now (by .exit)) ⌝ }
+{
+    let mut j = 0;
+    while j < 64 {
+        by[at + j] = chosen((live[j] == 1) & (codes[top + j] == 1), i, by[at + j]);
+        j += 1;
+    }
+}
+
+fn chosen(named: bool, i: u16, old: u16) -> u16
+    ensures { λ r. ⌜ r ≡ cond named i old ⌝ }
+{
+    if named {
+        return i;
+    }
+    old
+}

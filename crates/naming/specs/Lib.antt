@@ -1,0 +1,2 @@
+-- Which rows have been named.
+pub mod Naming

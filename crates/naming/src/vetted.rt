@@ -1,0 +1,218 @@
+// Which row is named for each row that is gone: the kept rows, in rising order, name the rows that they beat and that have no
+// name, so that each has the lowest. No public calls: each asks what was prepared before. `gone` has 0 for a row that is not
+// gone; `by` has the row that is named for a row, or 1024 for none yet.
+use blocks::vetted::block_codes;
+use live::vetted::group::pending_alive;
+use live::vetted::lit::any_lit;
+use live::vetted::marks::name_lanes;
+ghost use mathlib.Core.Path.{_≡_};
+ghost use Prim.Native.Nat.{_+_, _*_, _≤_, _<_};
+ghost use lib.ListN.{length, getD};
+ghost use Rattle.model.specs.Term.{termAt};
+ghost use Rattle.model.specs.Query.{beatsIn};
+ghost use Rattle.elimination.specs.Elimination.{Settled};
+ghost use Rattle.live.specs.Alive.{Beyond};
+ghost use Rattle.blocks.specs.Blocks.{Ready};
+ghost use Rattle.naming.specs.Naming.{Naming, Named};
+
+// All kept rows name, with no name given at first.
+pub fn name(
+    table: &[u8],
+    numbers: &[i32; 256],
+    ends: &[u8; 128],
+    reach: &[[bool; 32]; 256],
+    marks: &[bool; 128],
+    term: u8,
+    group: u8,
+    columns: usize,
+    rows: &[i32],
+    n: usize,
+    ranks: &[i32],
+    values: &[i32],
+    gone: &[u8],
+    by: &mut [u16],
+    codes: &mut [u8],
+)
+    requires { ⌜ Ready (now table) (now numbers) (now ends) (now reach) (now marks) term columns (now rows) n (now ranks) (now values)
+        × (length (now gone) ≡ 1024) × (length (now by) ≡ 1024) × (8192 ≤ length (now codes))
+        × Settled (beatsIn (termAt (now table) term) columns (now rows) group) n (now gone)
+        × Beyond n (now by)
+        × Named (beatsIn (termAt (now table) term) columns (now rows) group) n 0 (now by) ⌝ }
+    ensures { λ _. ⌜ Named (beatsIn (termAt (now (table .entry)) term) columns (now (rows .entry)) group) n n (now (by .exit)) ⌝ }
+{
+    let mut i = 0;
+    while i < n {
+        name_or_skip(
+            table,
+            numbers,
+            ends,
+            reach,
+            marks,
+            term,
+            group,
+            columns,
+            rows,
+            n,
+            ranks,
+            values,
+            i,
+            gone,
+            by,
+            codes,
+        );
+        i += 1;
+    }
+}
+
+// A row that is gone names none.
+fn name_or_skip(
+    table: &[u8],
+    numbers: &[i32; 256],
+    ends: &[u8; 128],
+    reach: &[[bool; 32]; 256],
+    marks: &[bool; 128],
+    term: u8,
+    group: u8,
+    columns: usize,
+    rows: &[i32],
+    n: usize,
+    ranks: &[i32],
+    values: &[i32],
+    i: usize,
+    gone: &[u8],
+    by: &mut [u16],
+    codes: &mut [u8],
+)
+    requires { ⌜ Ready (now table) (now numbers) (now ends) (now reach) (now marks) term columns (now rows) n (now ranks) (now values)
+        × (i < n) × (length (now gone) ≡ 1024) × (length (now by) ≡ 1024) × (8192 ≤ length (now codes))
+        × Settled (beatsIn (termAt (now table) term) columns (now rows) group) n (now gone)
+        × Beyond n (now by)
+        × Named (beatsIn (termAt (now table) term) columns (now rows) group) n i (now by) ⌝ }
+    ensures { λ _. ⌜ Named (beatsIn (termAt (now (table .entry)) term) columns (now (rows .entry)) group) n (i + 1) (now (by .exit))
+        × Beyond n (now (by .exit)) ⌝ }
+{
+    if gone[i] == 0 {
+        name_row(
+            table,
+            numbers,
+            ends,
+            reach,
+            marks,
+            term,
+            group,
+            columns,
+            rows,
+            n,
+            ranks,
+            values,
+            i,
+            gone,
+            by,
+            codes,
+        );
+    }
+}
+
+// Row i, which is kept, names the rows that it beats.
+fn name_row(
+    table: &[u8],
+    numbers: &[i32; 256],
+    ends: &[u8; 128],
+    reach: &[[bool; 32]; 256],
+    marks: &[bool; 128],
+    term: u8,
+    group: u8,
+    columns: usize,
+    rows: &[i32],
+    n: usize,
+    ranks: &[i32],
+    values: &[i32],
+    i: usize,
+    gone: &[u8],
+    by: &mut [u16],
+    codes: &mut [u8],
+)
+    requires { ⌜ Ready (now table) (now numbers) (now ends) (now reach) (now marks) term columns (now rows) n (now ranks) (now values)
+        × (i < n) × (length (now gone) ≡ 1024) × (length (now by) ≡ 1024) × (8192 ≤ length (now codes))
+        × Settled (beatsIn (termAt (now table) term) columns (now rows) group) n (now gone)
+        × (getD (now gone) i 0 ≡ 0) × Beyond n (now by)
+        × Named (beatsIn (termAt (now table) term) columns (now rows) group) n i (now by) ⌝ }
+    ensures { λ _. ⌜ Named (beatsIn (termAt (now (table .entry)) term) columns (now (rows .entry)) group) n (i + 1) (now (by .exit))
+        × Beyond n (now (by .exit)) ⌝ }
+{
+    let mut b = 0;
+    while b * 64 < n {
+        name_block(
+            table,
+            numbers,
+            ends,
+            reach,
+            marks,
+            term,
+            group,
+            columns,
+            rows,
+            n,
+            ranks,
+            values,
+            i,
+            b,
+            gone,
+            by,
+            codes,
+        );
+        b += 1;
+    }
+}
+
+// Row i, which is kept, names the rows of block b that it beats and that have no name.
+fn name_block(
+    table: &[u8],
+    numbers: &[i32; 256],
+    ends: &[u8; 128],
+    reach: &[[bool; 32]; 256],
+    marks: &[bool; 128],
+    term: u8,
+    group: u8,
+    columns: usize,
+    rows: &[i32],
+    n: usize,
+    ranks: &[i32],
+    values: &[i32],
+    i: usize,
+    b: usize,
+    gone: &[u8],
+    by: &mut [u16],
+    codes: &mut [u8],
+)
+    requires { ⌜ Ready (now table) (now numbers) (now ends) (now reach) (now marks) term columns (now rows) n (now ranks) (now values)
+        × (i < n) × (b * 64 < n) × (length (now gone) ≡ 1024) × (length (now by) ≡ 1024) × (8192 ≤ length (now codes))
+        × Settled (beatsIn (termAt (now table) term) columns (now rows) group) n (now gone)
+        × (getD (now gone) i 0 ≡ 0) × Beyond n (now by)
+        × Naming (beatsIn (termAt (now table) term) columns (now rows) group) n i (b * 64) (now by) ⌝ }
+    ensures { λ _. ⌜ Naming (beatsIn (termAt (now (table .entry)) term) columns (now (rows .entry)) group) n i (b * 64 + 64) (now (by .exit))
+        × Beyond n (now (by .exit)) ⌝ }
+{
+    let mut live = [0u8; 64];
+    pending_alive(group, columns, rows, n, values, i, b, gone, by, &mut live);
+    if any_lit(&live) {
+        block_codes(
+            table,
+            numbers,
+            ends,
+            reach,
+            marks,
+            term,
+            columns,
+            rows,
+            n,
+            ranks,
+            values,
+            i,
+            b,
+            codes,
+        );
+        let top = (term as usize) * 64;
+        name_lanes(by, b * 64, &live, codes, top, i as u16);
+    }
+}

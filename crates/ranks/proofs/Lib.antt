@@ -1,0 +1,3 @@
+pub mod Beneath
+pub mod Ranks
+pub mod Filled

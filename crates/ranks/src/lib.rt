@@ -1,0 +1,2 @@
+// The ranks of rows under base records, once per query.
+pub mod vetted;

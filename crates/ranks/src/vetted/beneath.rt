@@ -1,0 +1,75 @@
+// Which records are beneath a term: itself, its parts, their parts.
+use model::CompoundTerm;
+use model::Record;
+use values::vetted::lookup::decoded;
+ghost use mathlib.Core.Path.{_≡_};
+ghost use mathlib.Core.Bool.{false, cond};
+ghost use Prim.Native.Nat.{_<_};
+ghost use lib.ListN.{getD};
+ghost use Rattle.model.specs.Record.{recordAt};
+ghost use Rattle.values.specs.Prepared.{Numbers};
+ghost use Rattle.ranks.specs.Beneath.{OfParts, OfRecord, PartsLow, Marked, partsMarked, recordMarked};
+
+// Marks the records beneath the term, downward from it.
+pub fn beneath(table: &[u8], numbers: &[i32; 256], term: u8) -> [bool; 128]
+    requires { ⌜ (term < 128) × Numbers (now table) (now numbers) × PartsLow (now table) term ⌝ }
+    ensures { λ r. ⌜ Marked (now (table .entry)) term r ⌝ }
+{
+    let mut marks = [false; 128];
+    let top = term as usize;
+    marks[top] = true;
+    let mut k = term + 1;
+    while k > 0 {
+        k -= 1;
+        let next = with_parts(table, numbers, k, marks);
+        marks = next;
+    }
+    marks
+}
+
+// Marks the parts of record k too, if it is marked.
+fn with_parts(table: &[u8], numbers: &[i32; 256], k: u8, marks: [bool; 128]) -> [bool; 128]
+    requires { ⌜ (k < 128) × Numbers (now table) (now numbers) × PartsLow (now table) k ⌝ }
+    ensures { λ r. ⌜ r ≡ cond (getD marks k false) (recordMarked (recordAt (now (table .entry)) k) marks) marks ⌝ }
+{
+    let at = k as usize;
+    if marks[at] {
+        return of_record(decoded(table, numbers, k), marks);
+    }
+    marks
+}
+
+// Marks the parts of a record.
+fn of_record(r: Record, marks: [bool; 128]) -> [bool; 128]
+    requires { ⌜ OfRecord (λ p. p < 128) r ⌝ }
+    ensures { λ m. ⌜ m ≡ recordMarked r marks ⌝ }
+{
+    match r {
+        Record::Value(_) => marks,
+        Record::Base(_, _) => marks,
+        Record::Compound(c) => of_compound(c, marks),
+        Record::Unknown => marks,
+    }
+}
+
+// Marks the parts of a compound.
+fn of_compound(c: CompoundTerm, marks: [bool; 128]) -> [bool; 128]
+    requires { ⌜ OfParts (λ p. p < 128) c ⌝ }
+    ensures { λ m. ⌜ m ≡ partsMarked c marks ⌝ }
+{
+    let mut next = marks;
+    match c {
+        CompoundTerm::Joined(_, p, q) => {
+            let i = p as usize;
+            let j = q as usize;
+            next[i] = true;
+            next[j] = true;
+            next
+        }
+        CompoundTerm::Dual(p) => {
+            let i = p as usize;
+            next[i] = true;
+            next
+        }
+    }
+}

@@ -1,0 +1,141 @@
+-- One block of a round, over any relation: row i meets the rows of the block, the first of which is row lo. Assumes nothing.
+use mathlib.Core.Path.{_≡_, refl, sym, _∙_}
+use mathlib.Core.Logic.{_⊎_, inl, inr, ⊎-elim}
+use mathlib.Core.Bool.{Bool, true, false, not, _||_, false≢true}
+use mathlib.Core.List.{List}
+use Prim.Native.Nat.{ℕ, _+_, _<_, _≤_}
+use native.Mathlib.Omega.{arith}
+use lib.Dec.{eqb}
+use lib.ListN.{getD, set}
+use lib.Seq.{getD-set-other}
+use mir.Val.{boolByte}
+use borrow.Author.Tests.{eq-eqb, eqb-true, eqb-false}
+use Rattle.model.specs.Search.{anyBelow}
+use Rattle.model.specs.Query.{kept}
+use Rattle.laws.specs.Bools.{and-r}
+use Rattle.laws.specs.Search.{any-e, none-e}
+use Rattle.laws.specs.Members.{and-off}
+use Rattle.laws.specs.Order.{Rel}
+use Rattle.laws.specs.Select.{dropped-i}
+use Rattle.elimination.specs.Cases.{below-or-not}
+use Rattle.elimination.specs.Elimination.{Apart, Turn, Met}
+use Rattle.elimination.specs.Rounds.{rounds-more, turn-more, turn-met}
+use Rattle.lanes.specs.Wrote.{Wrote}
+use Rattle.live.specs.Live.{free, hit, goneLane}
+use Rattle.live.specs.Alive.{Above}
+use Rattle.rounds.proofs.Hits.{Hits, Dark, in-block}
+
+-- ---- one lane
+
+one-zero : _≡_ {A = ℕ} 1 0 → ⊥
+one-zero e = omega arith
+
+free-on : (gone : List ℕ) (lo j : ℕ) → getD gone (lo + j) 0 ≡ 0 → free gone lo j ≡ true
+unfolding free
+free-on gone lo j e = eq-eqb _ 0 e
+
+-- What the byte says of which it was made: 0, and not 0.
+byte-left : (a h : Bool) → boolByte (not a || h) ≡ 0 → (a ≡ true) × (h ≡ false)
+byte-left true true e = absurd (one-zero e)
+byte-left true false e = (refl, refl)
+byte-left false h e = absurd (one-zero e)
+
+byte-lost : (a h : Bool) → (boolByte (not a || h) ≡ 0 → ⊥) → (a ≡ false) ⊎ (h ≡ true)
+byte-lost true true e = inr refl
+byte-lost true false e = absurd (e refl)
+byte-lost false h e = inl refl
+
+module _ (gone : List ℕ) (lo : ℕ) (live codes : List ℕ) (top j : ℕ) where
+  -- A row that is not gone was not gone, and row i does not beat it.
+  left : goneLane gone lo live codes top j ≡ 0 → (getD gone (lo + j) 0 ≡ 0) × (hit live codes top 1 j ≡ false)
+  unfolding goneLane
+  left e =
+      let w = byte-left (eqb (getD gone (lo + j) 0) 0) (hit live codes top 1 j) e in
+      (eqb-true (getD gone (lo + j) 0) 0 (w .0), w .1)
+
+  -- A row that is gone was gone, or row i beats it.
+  lost : (goneLane gone lo live codes top j ≡ 0 → ⊥) → (getD gone (lo + j) 0 ≡ 0 → ⊥) ⊎ (hit live codes top 1 j ≡ true)
+  unfolding goneLane
+  lost e =
+      ⊎-elim (λ f. inl (eqb-false (getD gone (lo + j) 0) 0 f)) (λ h. inr h)
+      (byte-lost (eqb (getD gone (lo + j) 0) 0) (hit live codes top 1 j) e)
+
+-- ---- one block
+
+module _ (beats : Rel ℕ) (n i lo : ℕ) (gone : List ℕ) (row : i < n) (turn : Turn beats n i lo gone) where
+  -- It has no row that row i is to meet.
+  pub meets-none : Dark beats n i lo (free gone lo) → Met beats n i (lo + 64) gone false
+  meets-none d =
+      turn-met beats n i (lo + 64) gone
+      (turn-more beats n i gone gone row (λ j l z. z) (λ j l z. inl z) lo (lo + 64) turn here)
+    where
+      here : (x : ℕ) → i < x → lo ≤ x → x < lo + 64 → x < n → getD gone x 0 ≡ 0 → Apart beats i x
+      here x p q r h z =
+          in-block x lo (λ u. absurd (omega arith))
+          (λ j u v. let f : getD gone (lo + j) 0 ≡ 0 = rw v at z in rw v (d .apart j u (omega arith) (free-on gone lo j f)))
+          (λ u. absurd (omega arith))
+
+  -- Row i meets those that are not gone, and those that it beats go.
+  module _ (live codes new : List ℕ) (top : ℕ) (hits : Hits beats n i lo (free gone lo) live codes top)
+      (wrote : Wrote 0 (goneLane gone lo live codes top) lo 64 gone new) where
+    stay : (x : ℕ) → x < n → getD new x 0 ≡ 0 → getD gone x 0 ≡ 0
+    stay x l z =
+        in-block x lo
+        (λ u. sym (wrote .below x u) ∙ z)
+        (λ j u v. let f : getD new (lo + j) 0 ≡ 0 = rw v at z in
+        rw v (left gone lo live codes top j (sym (wrote .made j u) ∙ f) .0))
+        (λ u. sym (wrote .above x u) ∙ z)
+
+    why : (x : ℕ) → x < n → (getD new x 0 ≡ 0 → ⊥) → (getD gone x 0 ≡ 0 → ⊥) ⊎ (beats i x ≡ true)
+    why x l z =
+        in-block x lo
+        (λ u. inl (λ y. z (wrote .below x u ∙ y)))
+        (λ j u v. let f : getD new (lo + j) 0 ≡ 0 → ⊥ = rw v at z in
+        rw v (⊎-elim
+        (λ y. inl y)
+        (λ y. inr (and-r (free gone lo j) _ (sym (hits .one j u (omega arith)) ∙ y)))
+        (lost gone lo live codes top j (λ y. f (wrote .made j u ∙ y)))))
+        (λ u. inl (λ y. z (wrote .above x u ∙ y)))
+
+    beaten : (j : ℕ) → j < 64 → hit live codes top 2 j ≡ true → kept n beats i ≡ false
+    beaten j l h =
+        ⊎-elim
+        (λ k. dropped-i n beats i (lo + j) k (and-r (free gone lo j) _ (sym (hits .two j l k) ∙ h)))
+        (λ k. absurd (false≢true (sym (hits .off 2 j l k) ∙ h)))
+        (below-or-not (lo + j) n)
+
+    apart : (j : ℕ) → j < 64 → lo + j < n → hit live codes top 2 j ≡ false → getD new (lo + j) 0 ≡ 0 → Apart beats i (lo + j)
+    apart j l h e z =
+        let s = left gone lo live codes top j (sym (wrote .made j l) ∙ z) in
+        let f = free-on gone lo j (s .0) in (
+          and-off (free gone lo j) _ (sym (hits .one j l h) ∙ s .1) f,
+          and-off (free gone lo j) _ (sym (hits .two j l h) ∙ e) f,
+        )
+
+    pub meets-some : {lost : Bool} → lost ≡ anyBelow 64 (hit live codes top 2) → Met beats n i (lo + 64) new lost
+    meets-some e =
+        record {
+          rest = rounds-more beats n i gone new row stay why (turn .rest);
+          yes = λ y. let w = any-e 64 (hit live codes top 2) (sym e ∙ y) in beaten (w .0) (w .1) (w .2);
+          no = λ y x p q r z. in-block x lo
+              (λ u. turn .met x p u r (stay x r z))
+              (λ j u v. let f : getD new (lo + j) 0 ≡ 0 = rw v at z in
+              rw v (apart j u (omega arith) (none-e 64 (hit live codes top 2) (sym e ∙ y) j u) f))
+              (λ u. absurd (omega arith));
+        }
+
+    -- Lanes that are no rows stay gone.
+    pub above-some : Above n gone → Above n new
+    above-some a =
+        record {
+          each = λ x p q z. in-block x lo
+              (λ u. a .each x p q (sym (wrote .below x u) ∙ z))
+              (λ j u v. let f : getD new (lo + j) 0 ≡ 0 = rw v at z in
+              a .each (lo + j) (omega arith) (omega arith) (left gone lo live codes top j (sym (wrote .made j u) ∙ f) .0))
+              (λ u. a .each x p q (sym (wrote .above x u) ∙ z));
+        }
+
+-- A row that is beaten goes: lanes that are no rows stay gone.
+pub above-set : (n i : ℕ) (gone : List ℕ) → i < n → Above n gone → Above n (set gone i 1)
+above-set n i gone l a =
+    record { each = λ x p q z. a .each x p q (sym (getD-set-other gone i x 1 0 (λ e. omega arith)) ∙ z) }

@@ -1,0 +1,207 @@
+// Which rows are kept: every row that is not gone has its round, in which it meets the later rows block by block.
+use blocks::vetted::block_codes;
+use live::vetted::group::free_alive;
+use live::vetted::lit::any_hit;
+use live::vetted::lit::any_lit;
+use live::vetted::marks::gone_lanes;
+ghost use mathlib.Core.Path.{_≡_};
+ghost use Prim.Native.Nat.{_+_, _*_, _≤_, _<_};
+ghost use lib.ListN.{length};
+ghost use Rattle.model.specs.Term.{termAt};
+ghost use Rattle.model.specs.Query.{beatsIn};
+ghost use Rattle.elimination.specs.Elimination.{Rounds, Turn, Met, Settled};
+ghost use Rattle.live.specs.Alive.{Above};
+ghost use Rattle.blocks.specs.Blocks.{Ready};
+
+// All rounds, with no row gone at first: a row is not gone exactly where it is kept.
+pub fn eliminate(
+    table: &[u8],
+    numbers: &[i32; 256],
+    ends: &[u8; 128],
+    reach: &[[bool; 32]; 256],
+    marks: &[bool; 128],
+    term: u8,
+    group: u8,
+    columns: usize,
+    rows: &[i32],
+    n: usize,
+    ranks: &[i32],
+    values: &[i32],
+    gone: &mut [u8],
+    codes: &mut [u8],
+)
+    requires { ⌜ Ready (now table) (now numbers) (now ends) (now reach) (now marks) term columns (now rows) n (now ranks) (now values)
+        × (length (now gone) ≡ 1024) × (8192 ≤ length (now codes)) × Above n (now gone)
+        × Rounds (beatsIn (termAt (now table) term) columns (now rows) group) n 0 (now gone) ⌝ }
+    ensures { λ _. ⌜ Settled (beatsIn (termAt (now (table .entry)) term) columns (now (rows .entry)) group) n (now (gone .exit)) ⌝ }
+{
+    let mut i = 0;
+    while i < n {
+        round_or_skip(
+            table,
+            numbers,
+            ends,
+            reach,
+            marks,
+            term,
+            group,
+            columns,
+            rows,
+            n,
+            ranks,
+            values,
+            i,
+            gone,
+            codes,
+        );
+        i += 1;
+    }
+}
+
+// A row that is gone has no round.
+fn round_or_skip(
+    table: &[u8],
+    numbers: &[i32; 256],
+    ends: &[u8; 128],
+    reach: &[[bool; 32]; 256],
+    marks: &[bool; 128],
+    term: u8,
+    group: u8,
+    columns: usize,
+    rows: &[i32],
+    n: usize,
+    ranks: &[i32],
+    values: &[i32],
+    i: usize,
+    gone: &mut [u8],
+    codes: &mut [u8],
+)
+    requires { ⌜ Ready (now table) (now numbers) (now ends) (now reach) (now marks) term columns (now rows) n (now ranks) (now values)
+        × (i < n) × (length (now gone) ≡ 1024) × (8192 ≤ length (now codes)) × Above n (now gone)
+        × Rounds (beatsIn (termAt (now table) term) columns (now rows) group) n i (now gone) ⌝ }
+    ensures { λ _. ⌜ Rounds (beatsIn (termAt (now (table .entry)) term) columns (now (rows .entry)) group) n (i + 1) (now (gone .exit))
+        × Above n (now (gone .exit)) ⌝ }
+{
+    if gone[i] == 0 {
+        round(
+            table,
+            numbers,
+            ends,
+            reach,
+            marks,
+            term,
+            group,
+            columns,
+            rows,
+            n,
+            ranks,
+            values,
+            i,
+            gone,
+            codes,
+        );
+    }
+}
+
+// The round of row i: it meets the later rows that are not gone, until it is beaten.
+fn round(
+    table: &[u8],
+    numbers: &[i32; 256],
+    ends: &[u8; 128],
+    reach: &[[bool; 32]; 256],
+    marks: &[bool; 128],
+    term: u8,
+    group: u8,
+    columns: usize,
+    rows: &[i32],
+    n: usize,
+    ranks: &[i32],
+    values: &[i32],
+    i: usize,
+    gone: &mut [u8],
+    codes: &mut [u8],
+)
+    requires { ⌜ Ready (now table) (now numbers) (now ends) (now reach) (now marks) term columns (now rows) n (now ranks) (now values)
+        × (i < n) × (length (now gone) ≡ 1024) × (8192 ≤ length (now codes)) × Above n (now gone)
+        × Rounds (beatsIn (termAt (now table) term) columns (now rows) group) n i (now gone) ⌝ }
+    ensures { λ _. ⌜ Rounds (beatsIn (termAt (now (table .entry)) term) columns (now (rows .entry)) group) n (i + 1) (now (gone .exit))
+        × Above n (now (gone .exit)) ⌝ }
+{
+    let mut b = (i + 1) / 64;
+    while b * 64 < n {
+        if meet_block(
+            table,
+            numbers,
+            ends,
+            reach,
+            marks,
+            term,
+            group,
+            columns,
+            rows,
+            n,
+            ranks,
+            values,
+            i,
+            b,
+            gone,
+            codes,
+        ) {
+            gone[i] = 1;
+            return;
+        }
+        b += 1;
+    }
+}
+
+// Row i meets the rows of block b that are not gone, in its group. Those that it beats are gone; says whether one of them
+// is better.
+fn meet_block(
+    table: &[u8],
+    numbers: &[i32; 256],
+    ends: &[u8; 128],
+    reach: &[[bool; 32]; 256],
+    marks: &[bool; 128],
+    term: u8,
+    group: u8,
+    columns: usize,
+    rows: &[i32],
+    n: usize,
+    ranks: &[i32],
+    values: &[i32],
+    i: usize,
+    b: usize,
+    gone: &mut [u8],
+    codes: &mut [u8],
+) -> bool
+    requires { ⌜ Ready (now table) (now numbers) (now ends) (now reach) (now marks) term columns (now rows) n (now ranks) (now values)
+        × (i < n) × (b * 64 < n) × (length (now gone) ≡ 1024) × (8192 ≤ length (now codes)) × Above n (now gone)
+        × Turn (beatsIn (termAt (now table) term) columns (now rows) group) n i (b * 64) (now gone) ⌝ }
+    ensures { λ r. ⌜ Met (beatsIn (termAt (now (table .entry)) term) columns (now (rows .entry)) group) n i (b * 64 + 64) (now (gone .exit)) r
+        × Above n (now (gone .exit)) ⌝ }
+{
+    let mut live = [0u8; 64];
+    free_alive(group, columns, rows, n, values, i, b, gone, &mut live);
+    if any_lit(&live) {
+        block_codes(
+            table,
+            numbers,
+            ends,
+            reach,
+            marks,
+            term,
+            columns,
+            rows,
+            n,
+            ranks,
+            values,
+            i,
+            b,
+            codes,
+        );
+        let top = (term as usize) * 64;
+        gone_lanes(gone, b * 64, &live, codes, top);
+        return any_hit(&live, codes, top, 2);
+    }
+    false
+}
