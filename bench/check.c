@@ -1,7 +1,7 @@
 /* The time of one fnb_check on the tables that cost it most. Prints microseconds per call, the least of several rounds.
  * Figures of one machine and one run; nothing is promised by them. */
 #define _POSIX_C_SOURCE 200809L
-#include "finialbasil.h"
+#include "table.h"
 
 #include <stdio.h>
 #include <string.h>
@@ -9,44 +9,32 @@
 
 enum { LOWEST = 1, EXPLICIT = 9, PARETO = 16, BOTH = 18, DUAL = 19, EDGE = 4 };
 
-static uint8_t table[FNB_MOST_TABLE_BYTES];
-
-static void put(int k, int kind, int p, int q, int u, int v) {
-    uint8_t *record = table + FNB_RECORD_BYTES * k;
-    memset(record, 0, FNB_RECORD_BYTES);
-    record[0] = (uint8_t)kind;
-    record[1] = (uint8_t)p;
-    record[2] = (uint8_t)q;
-    record[4] = (uint8_t)u;
-    record[8] = (uint8_t)v;
-}
-
 /* Seven EXPLICIT of 16 edges that make a path, joined by PARETO. */
 static int explicits(void) {
     int k = 0;
     for (int i = 0; i < 7; i++) {
-        put(k++, EXPLICIT, i, 0, 0, 0);
+        put_at(k++, EXPLICIT, i, 0, 0, 0);
         for (int e = 1; e <= 16; e++)
-            put(k++, 0, EDGE, 0, e, e + 1);
+            put_at(k++, 0, EDGE, 0, e, e + 1);
     }
     for (int i = 1; i < 7; i++, k++)
-        put(k, PARETO, i == 1 ? 0 : k - 1, 17 * i, 0, 0);
+        put_at(k, PARETO, i == 1 ? 0 : k - 1, 17 * i, 0, 0);
     return k;
 }
 
 static int duals(void) {
-    put(0, LOWEST, 0, 0, 0, 0);
+    put_at(0, LOWEST, 0, 0, 0, 0);
     for (int k = 1; k < 128; k++)
-        put(k, DUAL, k - 1, 0, 0, 0);
+        put_at(k, DUAL, k - 1, 0, 0, 0);
     return 128;
 }
 
 static int boths(void) {
     for (int k = 0; k < 64; k++)
-        put(k, LOWEST, 0, 0, 0, 0);
-    put(64, BOTH, 0, 1, 0, 0);
+        put_at(k, LOWEST, 0, 0, 0, 0);
+    put_at(64, BOTH, 0, 1, 0, 0);
     for (int k = 65; k < 127; k++)
-        put(k, BOTH, k - 1, k - 63, 0, 0);
+        put_at(k, BOTH, k - 1, k - 63, 0, 0);
     return 127;
 }
 

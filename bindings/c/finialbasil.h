@@ -37,16 +37,20 @@
  *   12 BOUNDS   BETWEEN with low above up
  *   13 APART    BOTH of parts that read different columns
  *   14 LOOSE    a term other than the last that is no part
- *   15 ROWS     a row not of the count's length                                                 no place
+ *   15 ROWS     run not a multiple of the count, or over 1,024 rows; a single row not of the
+ *               count's length                                                                  no place
  *   16 TERM     number given is not a term record                                               no place
+ *   17 GROUP    group bit at or above the count                                                 no place
+ *   18 SHORT    answer buffer with fewer entries than there are rows                            no place
  *
  * Order: 1, 2, then records from 0 upward, each judged for 3 to 13 in number order, then 14 (lowest such record), then
- * 15, then 16. The first refusal in this order is the reply.
+ * 15 to 18. The first refusal in this order is the reply. No refusal writes anything.
  *
  * What every call asks of its caller:
- *   - A length counts elements, and that many elements may be read behind the pointer.
+ *   - A length counts elements, and that many elements may be read behind the pointer, and behind `answers` written.
  *   - A pointer is aligned for its element. It may be NULL only where its length is 0.
- *   - Nothing writes to lent memory while the call runs.
+ *   - `answers` overlaps nothing else that is lent.
+ *   - Nothing else writes to lent memory while the call runs, and nothing else reads `answers`.
  * No contents of the memory can make a call misbehave: whatever bytes and numbers come, a call reads only what it was
  * lent, ends, and gives the one reply that its contract states. Calls allocate nothing, keep nothing between calls,
  * may run on several threads at once, and need at most 1 MiB of stack.
@@ -67,6 +71,7 @@ extern "C" {
 #define FNB_MOST_TABLE_BYTES 1536
 #define FNB_MOST_COLUMNS 8
 #define FNB_MOST_VALUES 16 /* of one term */
+#define FNB_MOST_ROWS 1024 /* of one query */
 
 /* What `place` holds where a reply has none. */
 #define FNB_NO_PLACE 0xffffffffu
@@ -89,6 +94,8 @@ extern "C" {
 #define FNB_LOOSE 14u
 #define FNB_ROWS 15u
 #define FNB_TERM 16u
+#define FNB_GROUP 17u
+#define FNB_SHORT 18u
 
 /* How two rows compare. */
 #define FNB_SAME 0u          /* equal in the term's columns */
@@ -116,7 +123,7 @@ fnb_check_reply fnb_check(const uint8_t *table, size_t table_len, size_t columns
 
 /* What the other calls give. On a refusal `value` is 0. */
 typedef struct {
-    uint32_t refusal; /* 0: accepted; else 1 to 16 */
+    uint32_t refusal; /* 0: accepted; else 1 to 18 */
     uint32_t place;   /* the record that is refused, or FNB_NO_PLACE */
     uint32_t value;   /* what the call gives */
 } fnb_reply;
@@ -134,6 +141,19 @@ fnb_reply fnb_compare(const uint8_t *table, size_t table_len, size_t columns, si
  * 16. */
 fnb_reply fnb_perfect(const uint8_t *table, size_t table_len, size_t columns, size_t term, const int32_t *row,
                       size_t row_len);
+
+/* Query, rows compared pair by pair. Takes a table, the column count, the rows, row after row in one run, a term's
+ * record number, a group byte (bit j means equal in column j; 0 is one group) and the answer buffer. Row i's entry
+ * becomes i if the row is kept, that is, if no row of its group is better under the term; else the lowest kept row of
+ * its group that is better. Entries after the last row keep their contents. Gives how many rows were kept. Refuses 1
+ * to 18. */
+fnb_reply fnb_query_direct(const uint8_t *table, size_t table_len, size_t columns, const int32_t *rows, size_t rows_len,
+                           size_t term, uint8_t group, uint16_t *answers, size_t answers_len);
+
+/* Query, from the answers of the term's parts, by blocks of rows: the same reply and the same entries for whatever
+ * comes. */
+fnb_reply fnb_query_by_parts(const uint8_t *table, size_t table_len, size_t columns, const int32_t *rows,
+                             size_t rows_len, size_t term, uint8_t group, uint16_t *answers, size_t answers_len);
 
 #ifdef __cplusplus
 }

@@ -1,7 +1,7 @@
-/* The archive behind its header: layout of the replies, T1 accepted, rows compared and marked, refusals with and without
- * place, NULL with length 0, and the dearest table on a thread with 1 MiB of stack. Expected answers are from document
- * 01. Sanitizers do not see into the archive, so what is lent lies between pages that nobody may touch, flush at the end
- * and flush at the start. */
+/* The archive behind its header: layout of the replies, T1 accepted, rows compared, marked and queried by both engines,
+ * refusals with and without place, NULL with length 0, and the dearest table on a thread with 1 MiB of stack. Expected
+ * answers are from document 01. Sanitizers do not see into the archive, so what is lent lies between pages that nobody
+ * may touch, flush at the end and flush at the start. */
 #ifndef _GNU_SOURCE
 #define _GNU_SOURCE
 #endif
@@ -61,28 +61,35 @@ static void gives(const char *name, fnb_reply got, uint32_t refusal, uint32_t pl
            (unsigned)got.value);
 }
 
-/* Three pages, each between two that nobody may touch: for a table and two rows. Nothing lent is longer than a page. */
-enum { PAGE = 4096, PAGES = 3 };
-static uint8_t *pages[PAGES];
+/* Three rooms, each between two pages that nobody may touch: for a table, for one row or all, and for a second row or
+ * the answers. Nothing lent is longer than its room: 1,025 rows of eight columns take 32,800 bytes. */
+enum { PAGE = 4096, ROOM = 9 * PAGE, ROOMS = 3, UNTOUCHED = 0xa5 };
+static uint8_t *rooms[ROOMS];
 
-static void make_pages(void) {
+static void make_rooms(void) {
     int i;
-    for (i = 0; i < PAGES; i++) {
-        uint8_t *three = (uint8_t *)mmap(NULL, 3 * PAGE, PROT_NONE, MAP_PRIVATE | MAP_ANONYMOUS, -1, 0);
-        if (three == MAP_FAILED || mprotect(three + PAGE, PAGE, PROT_READ | PROT_WRITE) != 0)
+    for (i = 0; i < ROOMS; i++) {
+        uint8_t *all = (uint8_t *)mmap(NULL, ROOM + 2 * PAGE, PROT_NONE, MAP_PRIVATE | MAP_ANONYMOUS, -1, 0);
+        if (all == MAP_FAILED)
             abort();
-        pages[i] = three + PAGE;
+        rooms[i] = all + PAGE;
     }
 }
 
-/* The bytes, on page i, flush at its end or at its start, where they can be read only. */
-static const void *lent(int i, const void *bytes, size_t length, int at_end) {
-    uint8_t *place = at_end ? pages[i] + PAGE - length : pages[i];
-    if (mprotect(pages[i], PAGE, PROT_READ | PROT_WRITE) != 0)
+/* The bytes, in room i, flush at its end or at its start, where they can be written too. */
+static void *lent_to_write(int i, const void *bytes, size_t length, int at_end) {
+    uint8_t *place = at_end ? rooms[i] + ROOM - length : rooms[i];
+    if (mprotect(rooms[i], ROOM, PROT_READ | PROT_WRITE) != 0)
         abort();
-    memset(pages[i], 0xa5, PAGE);
+    memset(rooms[i], UNTOUCHED, ROOM);
     memcpy(place, bytes, length);
-    if (mprotect(pages[i], PAGE, PROT_READ) != 0)
+    return place;
+}
+
+/* The bytes, where they can be read only. */
+static const void *lent(int i, const void *bytes, size_t length, int at_end) {
+    const void *place = lent_to_write(i, bytes, length, at_end);
+    if (mprotect(rooms[i], ROOM, PROT_READ) != 0)
         abort();
     return place;
 }
@@ -133,6 +140,56 @@ static fnb_reply perfect(const uint8_t *table, size_t length, size_t columns, si
     return at_end;
 }
 
+/* What is beside the answers in their room stays untouched. */
+static void expect_beside(int at_end, size_t length) {
+    size_t i;
+    for (i = 0; i < ROOM - length; i++)
+        if (rooms[2][at_end ? i : length + i] != UNTOUCHED)
+            break;
+    if (i == ROOM - length)
+        return;
+    failed++;
+    printf("written beside the answers\n");
+}
+
+typedef fnb_reply engine(const uint8_t *, size_t, size_t, const int32_t *, size_t, size_t, uint8_t, uint16_t *, size_t);
+
+enum { MOST_ENTRIES = 1100 };
+
+static fnb_reply query_at(engine *ask, int at_end, const uint8_t *table, size_t length, size_t columns,
+                          const int32_t *rows, size_t rows_length, size_t term, uint8_t group, uint16_t *answers,
+                          size_t entries) {
+    const uint8_t *t = (const uint8_t *)lent(0, table, length, at_end);
+    const int32_t *r = (const int32_t *)lent(1, rows, rows_length * sizeof *rows, at_end);
+    uint16_t *a = (uint16_t *)lent_to_write(2, answers, entries * sizeof *answers, at_end);
+    fnb_reply reply = ask(t, length, columns, r, rows_length, term, group, a, entries);
+    memcpy(answers, a, entries * sizeof *answers);
+    expect_beside(at_end, entries * sizeof *answers);
+    return reply;
+}
+
+/* Both engines, each with what is lent at the end and at the start: one reply and the same entries. */
+static fnb_reply query(const uint8_t *table, size_t length, size_t columns, const int32_t *rows, size_t rows_length,
+                       size_t term, uint8_t group, uint16_t *answers, size_t entries) {
+    static engine *const engines[] = {fnb_query_direct, fnb_query_by_parts, fnb_query_by_parts};
+    static const int at_end[] = {0, 1, 0};
+    uint16_t before[MOST_ENTRIES], again[MOST_ENTRIES];
+    size_t bytes = entries * sizeof *answers;
+    fnb_reply reply, other;
+    int i;
+    memcpy(before, answers, bytes);
+    reply = query_at(fnb_query_direct, 1, table, length, columns, rows, rows_length, term, group, answers, entries);
+    for (i = 0; i < 3; i++) {
+        memcpy(again, before, bytes);
+        other = query_at(engines[i], at_end[i], table, length, columns, rows, rows_length, term, group, again, entries);
+        if (memcmp(&reply, &other, sizeof reply) != 0 || memcmp(answers, again, bytes) != 0) {
+            failed++;
+            printf("the answers go by the engine or by where what is lent lies\n");
+        }
+    }
+    return reply;
+}
+
 #define CHECK(table, columns) check(table, sizeof(table), columns)
 #define COMPARE(table, columns, term, first, second)                                                                   \
     compare(table, sizeof(table), columns, term, first, sizeof(first) / sizeof(*first), second,                        \
@@ -165,8 +222,19 @@ static void make_dearest(void) {
 /* Every call on the dearest table: in each of its columns 1 leads to 3 by two edges, and 17 is the end of the path. */
 typedef struct {
     fnb_check_reply checked;
-    fnb_reply compared, marked;
+    fnb_reply compared, marked, direct, by_parts;
 } dearest_replies;
+
+/* 1,024 rows: 1 to 17 in each of the seven columns, again and again, and the row's number in the last one. */
+static int32_t dearest_rows[FNB_MOST_ROWS * 8];
+static uint16_t dearest_direct[FNB_MOST_ROWS], dearest_by_parts[FNB_MOST_ROWS];
+
+static void make_dearest_rows(void) {
+    int i, c;
+    for (i = 0; i < FNB_MOST_ROWS; i++)
+        for (c = 0; c < 8; c++)
+            dearest_rows[8 * i + c] = c < 7 ? 1 + i % 17 : i;
+}
 
 static void *run_dearest(void *replies) {
     static const int32_t low[8] = {1, 1, 1, 1, 1, 1, 1, 1}, high[8] = {3, 3, 3, 3, 3, 3, 3, 3},
@@ -175,6 +243,10 @@ static void *run_dearest(void *replies) {
     r->checked = fnb_check(dearest, sizeof dearest, 8);
     r->compared = fnb_compare(dearest, sizeof dearest, 8, 124, low, 8, high, 8);
     r->marked = fnb_perfect(dearest, sizeof dearest, 8, 124, best, 8);
+    r->direct = fnb_query_direct(dearest, sizeof dearest, 8, dearest_rows, 8 * FNB_MOST_ROWS, 124, 0, dearest_direct,
+                                 FNB_MOST_ROWS);
+    r->by_parts = fnb_query_by_parts(dearest, sizeof dearest, 8, dearest_rows, 8 * FNB_MOST_ROWS, 124, 0,
+                                     dearest_by_parts, FNB_MOST_ROWS);
     return NULL;
 }
 
@@ -268,20 +340,156 @@ static void perfect_cases(const uint8_t *t1, size_t t1_length) {
     gives("term 7", perfect(t1, t1_length, 3, 7, best, 3), FNB_TERM, FNB_NO_PLACE, 0);
 }
 
+/* Every entry holds this before a query. */
+#define BEFORE ((uint16_t)7777)
+
+/* A query on a fresh buffer: its reply, and its entries, those after the expected ones as they were. */
+static void queried(const char *name, const uint8_t *table, size_t length, size_t columns, const int32_t *rows,
+                    size_t rows_length, size_t term, uint8_t group, size_t entries, uint32_t refusal, uint32_t place,
+                    uint32_t value, const uint16_t *expected, size_t expected_length) {
+    uint16_t answers[MOST_ENTRIES];
+    size_t i;
+    for (i = 0; i < entries; i++)
+        answers[i] = BEFORE;
+    gives(name, query(table, length, columns, rows, rows_length, term, group, answers, entries), refusal, place, value);
+    for (i = 0; i < entries; i++)
+        if (answers[i] != (i < expected_length ? expected[i] : BEFORE)) {
+            failed++;
+            printf("%s: entry %u is %u\n", name, (unsigned)i, (unsigned)answers[i]);
+        }
+}
+
+/* A refusal writes nothing. */
+static void not_queried(const char *name, const uint8_t *table, size_t length, size_t columns, const int32_t *rows,
+                        size_t rows_length, size_t term, uint8_t group, size_t entries, uint32_t refusal,
+                        uint32_t place) {
+    queried(name, table, length, columns, rows, rows_length, term, group, entries, refusal, place, 0, NULL, 0);
+}
+
+/* Rows V. */
+static const int32_t rows_v[] = {-5, 3, 4, -5, 4, 4, 5, 1, 8, 5, 6, 6, -6, 0, 6, -6, 0, 4, 6, 2, 7};
+
+static void query_cases(const uint8_t *t1, size_t t1_length) {
+    static const uint8_t prior[] = {RECORD(3, 0, 0, 0, 0), RECORD(1, 1, 0, 0, 0), RECORD(17, 0, 1, 0, 0)};
+    static const uint16_t top[] = {0, 0, 2, 2, 4, 4, 2}, grouped[] = {0, 0, 2, 2, 4, 5, 6};
+    static const uint16_t placed[] = {0, 0, 2, 2, 0, 0, 0};
+
+    queried("T1 over V", t1, t1_length, 3, rows_v, 21, 4, 0, 9, 0, FNB_NO_PLACE, 3, top, 7);
+    queried("T1 over V, seven entries", t1, t1_length, 3, rows_v, 21, 4, 0, 7, 0, FNB_NO_PLACE, 3, top, 7);
+    queried("T1 record 1, group byte 1", t1, t1_length, 3, rows_v, 21, 1, 1, 9, 0, FNB_NO_PLACE, 5, grouped, 7);
+    queried("AROUND 0 PRIOR LOWEST", prior, sizeof prior, 3, rows_v, 21, 2, 0, 9, 0, FNB_NO_PLACE, 2, placed, 7);
+    queried("no rows", t1, t1_length, 3, rows_v, 0, 4, 0, 3, 0, FNB_NO_PLACE, 0, NULL, 0);
+
+    not_queried("20 numbers", t1, t1_length, 3, rows_v, 20, 4, 0, 9, FNB_ROWS, FNB_NO_PLACE);
+    not_queried("term 5", t1, t1_length, 3, rows_v, 21, 5, 0, 9, FNB_TERM, FNB_NO_PLACE);
+    not_queried("term 2^32 + 4", t1, t1_length, 3, rows_v, 21, (size_t)4294967300u, 0, 9, FNB_TERM, FNB_NO_PLACE);
+    not_queried("group byte 8", t1, t1_length, 3, rows_v, 21, 4, 8, 9, FNB_GROUP, FNB_NO_PLACE);
+    not_queried("group byte 128", t1, t1_length, 3, rows_v, 21, 4, 128, 9, FNB_GROUP, FNB_NO_PLACE);
+    not_queried("six entries", t1, t1_length, 3, rows_v, 21, 4, 0, 6, FNB_SHORT, FNB_NO_PLACE);
+    not_queried("no entries", t1, t1_length, 3, rows_v, 21, 4, 0, 0, FNB_SHORT, FNB_NO_PLACE);
+    not_queried("rows and term", t1, t1_length, 3, rows_v, 20, 5, 0, 9, FNB_ROWS, FNB_NO_PLACE);
+    not_queried("term and group", t1, t1_length, 3, rows_v, 21, 5, 8, 9, FNB_TERM, FNB_NO_PLACE);
+    not_queried("group and six entries", t1, t1_length, 3, rows_v, 21, 4, 8, 6, FNB_GROUP, FNB_NO_PLACE);
+}
+
+/* What Check refuses, Query refuses too. */
+static void query_table_cases(const uint8_t *t1, size_t t1_length) {
+    static const uint8_t kind[] = {RECORD(1, 0, 0, 0, 0), RECORD(11, 0, 0, 0, 0)};
+    static const uint8_t reused[] = {RECORD(1, 0, 0, 0, 0), RECORD(16, 0, 0, 0, 0)};
+    static const uint8_t loop[] = {RECORD(9, 0, 0, 0, 0), RECORD(0, 4, 0, 1, 2), RECORD(0, 4, 0, 2, 1)};
+    static const uint8_t loose[] = {RECORD(1, 0, 0, 0, 0), RECORD(2, 0, 0, 0, 0)};
+
+    not_queried("no columns", t1, t1_length, 0, rows_v, 21, 4, 0, 9, FNB_WIDTH, FNB_NO_PLACE);
+    not_queried("nine columns", t1, t1_length, 9, rows_v, 18, 4, 0, 9, FNB_WIDTH, FNB_NO_PLACE);
+    not_queried("2^32 + 3 columns", t1, t1_length, (size_t)4294967299u, rows_v, 21, 4, 0, 9, FNB_WIDTH, FNB_NO_PLACE);
+    not_queried("59 bytes of T1", t1, 59, 3, rows_v, 21, 4, 0, 9, FNB_LENGTH, FNB_NO_PLACE);
+    not_queried("kind 11", kind, sizeof kind, 3, rows_v, 21, 0, 0, 9, FNB_KIND, 1);
+    not_queried("T1 with two columns", t1, t1_length, 2, rows_v, 20, 4, 0, 20, FNB_COLUMN, 3);
+    not_queried("PARETO 0 0", reused, sizeof reused, 3, rows_v, 21, 0, 0, 9, FNB_REUSED, 1);
+    not_queried("edges (1,2) (2,1)", loop, sizeof loop, 3, rows_v, 21, 0, 0, 9, FNB_LOOP, 2);
+    not_queried("two terms alone", loose, sizeof loose, 3, rows_v, 21, 0, 0, 9, FNB_LOOSE, 0);
+}
+
+/* NULL where a length is 0. */
+static void query_null_cases(const uint8_t *t1, size_t t1_length) {
+    static engine *const engines[] = {fnb_query_direct, fnb_query_by_parts};
+    uint16_t answers[2] = {BEFORE, BEFORE};
+    int e;
+    for (e = 0; e < 2; e++) {
+        gives("NULL table", engines[e](NULL, 0, 3, rows_v, 21, 4, 0, answers, 2), FNB_LENGTH, FNB_NO_PLACE, 0);
+        gives("NULL rows", engines[e](t1, t1_length, 3, NULL, 0, 4, 0, answers, 2), 0, FNB_NO_PLACE, 0);
+        gives("NULL rows and answers", engines[e](t1, t1_length, 3, NULL, 0, 4, 0, NULL, 0), 0, FNB_NO_PLACE, 0);
+        gives("NULL answers", engines[e](t1, t1_length, 3, rows_v, 21, 4, 0, NULL, 0), FNB_SHORT, FNB_NO_PLACE, 0);
+        gives("NULL thrice", engines[e](NULL, 0, 0, NULL, 0, 0, 0, NULL, 0), FNB_WIDTH, FNB_NO_PLACE, 0);
+    }
+    checked++;
+    if (answers[0] != BEFORE || answers[1] != BEFORE) {
+        failed++;
+        printf("written though there are no rows\n");
+    }
+}
+
+/* 1,024 rows of eight columns, in which column 0 rises, column 1 falls and the others are 0. */
+static void query_most_rows(void) {
+    static const uint8_t low[] = {RECORD(1, 0, 0, 0, 0)}, high[] = {RECORD(2, 0, 0, 0, 0)};
+    static const uint8_t pareto[] = {RECORD(1, 0, 0, 0, 0), RECORD(1, 1, 0, 0, 0), RECORD(16, 0, 1, 0, 0)};
+    static int32_t rows[8 * (FNB_MOST_ROWS + 1)];
+    static uint16_t zeros[FNB_MOST_ROWS], last[FNB_MOST_ROWS], own[FNB_MOST_ROWS];
+    const size_t length = 8 * FNB_MOST_ROWS;
+    int i;
+    for (i = 0; i <= FNB_MOST_ROWS; i++) {
+        rows[8 * i] = i;
+        rows[8 * i + 1] = -i;
+    }
+    for (i = 0; i < FNB_MOST_ROWS; i++) {
+        last[i] = FNB_MOST_ROWS - 1;
+        own[i] = (uint16_t)i;
+    }
+    queried("1,024 rows, LOWEST", low, sizeof low, 8, rows, length, 0, 0, 1026, 0, FNB_NO_PLACE, 1, zeros, 1024);
+    queried("1,024 rows, HIGHEST", high, sizeof high, 8, rows, length, 0, 0, 1024, 0, FNB_NO_PLACE, 1, last, 1024);
+    queried("1,024 rows, PARETO", pareto, sizeof pareto, 8, rows, length, 2, 0, 1026, 0, FNB_NO_PLACE, 1024, own, 1024);
+    queried("1,024 groups", low, sizeof low, 8, rows, length, 0, 2, 1026, 0, FNB_NO_PLACE, 1024, own, 1024);
+    not_queried("1,023 entries", low, sizeof low, 8, rows, length, 0, 0, 1023, FNB_SHORT, FNB_NO_PLACE);
+    not_queried("1,025 rows", low, sizeof low, 8, rows, length + 8, 0, 0, 1026, FNB_ROWS, FNB_NO_PLACE);
+    not_queried("a number more", low, sizeof low, 8, rows, length + 1, 0, 0, 1026, FNB_ROWS, FNB_NO_PLACE);
+}
+
+/* In every 17th row from row 16 on all columns of the dearest table hold 17: 60 rows, which are equal. */
+static void expect_dearest(const uint16_t *answers) {
+    int i;
+    checked++;
+    for (i = 0; i < FNB_MOST_ROWS; i++)
+        if (answers[i] != (i % 17 == 16 ? i : 16))
+            break;
+    if (i == FNB_MOST_ROWS)
+        return;
+    failed++;
+    printf("dearest table queried, 1 MiB of stack: entry %d is %u\n", i, (unsigned)answers[i]);
+}
+
 int main(void) {
     static const uint8_t t1[] = {RECORD(3, 0, 0, 0, 0), RECORD(1, 1, 0, 0, 0), RECORD(16, 0, 1, 0, 0),
                                  RECORD(2, 2, 0, 0, 0), RECORD(16, 2, 3, 0, 0)};
     dearest_replies dear;
 
-    make_pages();
+    make_rooms();
     make_dearest();
+    make_dearest_rows();
     dear = on_small_stack();
     expect("dearest table, 1 MiB of stack", dear.checked, FNB_ACCEPTED, FNB_NO_PLACE, 125, 124, 127, 7);
     gives("dearest table compared, 1 MiB of stack", dear.compared, 0, FNB_NO_PLACE, FNB_SECOND_BETTER);
     gives("dearest table marked, 1 MiB of stack", dear.marked, 0, FNB_NO_PLACE, FNB_PERFECT);
+    gives("dearest table queried directly, 1 MiB of stack", dear.direct, 0, FNB_NO_PLACE, 60);
+    gives("dearest table queried by parts, 1 MiB of stack", dear.by_parts, 0, FNB_NO_PLACE, 60);
+    expect_dearest(dearest_direct);
+    expect_dearest(dearest_by_parts);
     check_cases(t1, sizeof t1);
     compare_cases(t1, sizeof t1);
     perfect_cases(t1, sizeof t1);
+    query_cases(t1, sizeof t1);
+    query_table_cases(t1, sizeof t1);
+    query_null_cases(t1, sizeof t1);
+    query_most_rows();
 
     printf("C interface: %d checked, %d failed\n", checked, failed);
     return failed == 0 ? 0 : 1;

@@ -1,5 +1,7 @@
 // What a call that asks for a term refuses: the table's own, then a row that is not of the count's length, then a number
 // that is no term record. No public call: the calls use it, and it asks nothing.
+pub mod query;
+
 use model::RECORD_BYTES;
 use model::Refusal;
 use model::Verdict;

@@ -14,15 +14,11 @@ use Rattle.laws.specs.Bools.{and-l, and-r}
 use Rattle.laws.specs.Strict.{transitive}
 use Rattle.laws.specs.Outcome.{isFirst, turned, is-first}
 use Rattle.laws.specs.Compared.{outcome-turned}
-use Rattle.laws.specs.Accepted.{accepted-true}
-use Rattle.laws.specs.Taken.{TakenTerm, taken-sound}
+use Rattle.laws.specs.Taken.{taken-sound}
 use Rattle.laws.specs.Replied.{compared-reply, reply-self}
-use Rattle.demands.specs.Strictly.{TermRecord, numberGiven}
-
--- A term record of an accepted table is one that a call takes.
-pub taken : (table : List ℕ) (columns term : ℕ) → TermRecord table columns term → TakenTerm table columns term
-taken table columns term t =
-    record { isAccepted = accepted-true table columns .0 (t .isAccepted); below = t .below; isRecord = t .isRecord }
+use Rattle.demands.specs.Strictly.{TermRecord}
+use Rattle.agreement.specs.Given.{numberGiven}
+use Rattle.demands.specs.Ordered.{taken}
 
 -- ---- what the functions test
 
@@ -48,7 +44,7 @@ below-four First = refl
 below-four Second = refl
 below-four Unranked = refl
 
-is-one : (o : Outcome) → eqb (numberGiven (CompareReply.Compared o)) 1 ≡ isFirst o
+pub is-one : (o : Outcome) → eqb (numberGiven (CompareReply.Compared o)) 1 ≡ isFirst o
 is-one Same = refl
 is-one First = refl
 is-one Second = refl

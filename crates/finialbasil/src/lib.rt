@@ -1,10 +1,11 @@
 // The C interface (bindings/c/finialbasil.h): one export for each public call, one converter for each reply. A reply
 // holds what document 01 lists for it; no export has a `requires`.
 ghost use mathlib.Core.Path.{_≡_};
-ghost use Rattle.model.specs.Replies.{listed, listedCheck, outcomeNumber, listedCompare, markNumber, listedPerfect};
+ghost use Rattle.model.specs.Replies.{listed, listedCheck, outcomeNumber, listedCompare, markNumber, listedPerfect, listedQuery};
 ghost use Rattle.model.specs.Check.{checkReply};
 ghost use Rattle.model.specs.Compare.{compareReply};
 ghost use Rattle.model.specs.Perfect.{perfectReply};
+ghost use Rattle.model.specs.Query.{queryReply, queryBuffer};
 ghost use Rattle.finialbasil.specs.Layout.{placeNumber, checkFields, replyFields, givenFields};
 use model::CheckReply;
 use model::CompareReply;
@@ -12,6 +13,7 @@ use model::Mark;
 use model::Outcome;
 use model::PerfectReply;
 use model::Place;
+use model::QueryReply;
 use model::Refusal;
 use refusals::number;
 use refusals::place;
@@ -71,6 +73,41 @@ pub extern "C" fn fnb_perfect(table: &[u8], columns: usize, term: usize, row: &[
     perfect_fields(perfect::perfect(table, columns, term, row))
 }
 
+// Query, rows compared pair by pair: table, column count, rows, a term's record number, a group byte and the answer buffer,
+// whose entries are written row by row. The value is how many rows were kept.
+#[no_mangle]
+pub extern "C" fn fnb_query_direct(
+    table: &[u8],
+    columns: usize,
+    rows: &[i32],
+    term: usize,
+    group: u8,
+    answers: &mut [u16],
+) -> FnbReply
+    ensures { λ r. ⌜ (r ≡ replyFields (listedQuery
+        (queryReply (now (table .entry)) columns (now (rows .entry)) term group (now (answers .entry)))))
+        × (now (answers .exit) ≡ queryBuffer (now (table .entry)) columns (now (rows .entry)) term group (now (answers .entry))) ⌝ }
+{
+    query_fields(query::query_direct(table, columns, rows, term, group, answers))
+}
+
+// Query, from the answers of the smaller wishes: the same contract.
+#[no_mangle]
+pub extern "C" fn fnb_query_by_parts(
+    table: &[u8],
+    columns: usize,
+    rows: &[i32],
+    term: usize,
+    group: u8,
+    answers: &mut [u16],
+) -> FnbReply
+    ensures { λ r. ⌜ (r ≡ replyFields (listedQuery
+        (queryReply (now (table .entry)) columns (now (rows .entry)) term group (now (answers .entry)))))
+        × (now (answers .exit) ≡ queryBuffer (now (table .entry)) columns (now (rows .entry)) term group (now (answers .entry))) ⌝ }
+{
+    query_fields(query::query_by_parts(table, columns, rows, term, group, answers))
+}
+
 fn check_fields(reply: CheckReply) -> FnbCheckReply
     ensures { λ r. ⌜ r ≡ checkFields (listedCheck reply) ⌝ }
 {
@@ -109,6 +146,15 @@ fn perfect_fields(reply: PerfectReply) -> FnbReply
     match reply {
         PerfectReply::Marked(m) => given(mark_number(m)),
         PerfectReply::Refused(why) => refused(why),
+    }
+}
+
+fn query_fields(reply: QueryReply) -> FnbReply
+    ensures { λ r. ⌜ r ≡ replyFields (listedQuery reply) ⌝ }
+{
+    match reply {
+        QueryReply::Kept(count) => given(count as u32),
+        QueryReply::Refused(why) => refused(why),
     }
 }
 

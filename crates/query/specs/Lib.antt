@@ -1,0 +1,2 @@
+-- What an engine does for a query that refuses nothing.
+pub mod Selected
