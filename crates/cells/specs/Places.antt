@@ -3,11 +3,11 @@
 use mathlib.Core.Path.{_≡_, sym, ap, ap₂, _∙_, subst}
 use mathlib.Core.Logic.{⊎-elim}
 use mathlib.Core.List.{List}
-use Prim.Native.Nat.{ℕ, _+_, _*_, _/_, _%_, _<_, _≤_}
-use native.Mathlib.Nat.{mul-le-mul-right, suc-mul}
+use Prim.Native.Nat.{ℕ, _+_, _-_, _*_, _/_, _%_, _<_, _≤_}
+use native.Mathlib.Nat.{mul-le-mul-right, suc-mul, add-sub-cancel-left}
 use native.Mathlib.Omega.{arith}
 use lib.Dec.{ltb}
-use lib.ListN.{length, getD, set, drop, length-drop}
+use lib.ListN.{length, getD, set, take, drop, length-drop}
 use lib.Seq.{getD-set-same, getD-set-other, getD-take, getD-drop, length-take-le}
 use lib.IntN.{ℤ, pos}
 use borrow.Author.Tests.{ltb-true, ltb-false}
@@ -22,6 +22,12 @@ use Rattle.cells.specs.Values.{Room}
 -- A run has the whole of each of its rows.
 pub row-in : (n columns size : ℕ) → size ≡ n * columns → (i : ℕ) → i < n → i * columns + columns ≤ size
 row-in n columns size e i h = let m = mul-le-mul-right columns h in omega (arith, e, m, suc-mul i columns)
+
+-- The part of the run from a row's beginning to its end is the row.
+pub row-part : (columns : ℕ) (rows : List ℤ) (i : ℕ)
+    → take (i * columns + columns - i * columns) (drop (i * columns) rows) ≡ rowAt columns rows i
+unfolding rowAt
+row-part columns rows i = ap (λ (m : ℕ). take m (drop (i * columns) rows)) (add-sub-cancel-left (i * columns) columns)
 
 -- A row of the run has the run's columns.
 pub row-length : (columns : ℕ) (rows : List ℤ) (n : ℕ) → length rows ≡ n * columns → (i : ℕ) → i < n

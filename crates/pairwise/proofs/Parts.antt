@@ -1,23 +1,17 @@
--- A row of a run is the part of it from the row's number times the width. Assumes nothing.
+-- The rows of a run that is compared. Assumes nothing.
 use mathlib.Core.Path.{_≡_}
 use mathlib.Core.Bool.{Bool}
 use mathlib.Core.List.{List}
-use Prim.Native.Nat.{ℕ, _+_, _-_, _*_, _<_, _≤_}
+use Prim.Native.Nat.{ℕ, _+_, _*_, _<_, _≤_}
 use native.Mathlib.Nat.{mul-le-mul-left, mul-le-mul-right}
 use native.Mathlib.Omega.{arith}
 use lib.IntN.{ℤ}
-use lib.ListN.{length, take, drop}
+use lib.ListN.{length}
 use Rattle.model.specs.Query.{rowAt}
 use Rattle.laws.specs.AcceptedTable.{accepted-table}
 use Rattle.cells.specs.Places.{row-in, row-length}
 use Rattle.outcomes.specs.Rows.{Ready}
 use Rattle.pairwise.specs.Pairs.{Comparable}
-
--- The part of `columns` cells from row i's place on is row i.
-pub part-row : (columns : ℕ) (rows : List ℤ) (i : ℕ)
-    → take (i * columns + columns - i * columns) (drop (i * columns) rows) ≡ rowAt columns rows i
-unfolding rowAt
-part-row columns rows i = let e : i * columns + columns - i * columns ≡ columns = omega arith in rw e
 
 module _ {table : List ℕ} {numbers : List ℤ} {ends : List ℕ} {reach : List (List Bool)} {term columns : ℕ} {rows : List ℤ}
     {n : ℕ} (c : Comparable table numbers ends reach term columns rows n) where

@@ -3,7 +3,8 @@ use native.Mathlib.Omega.{arith}
 use denote.Ref.{now}
 use borrow.Author.Needs.{needs}
 use Rattle.agreement.specs.Witness.{isWitness}
-use Rattle.agreement.proofs.Rows.{row-end, row-small, row-part}
+use Rattle.cells.specs.Places.{row-part}
+use Rattle.agreement.proofs.Rows.{row-end, row-small}
 use Rattle.agreement.proofs.vetted.is_witness.Statement.{statement}
 use Rattle.agreement.proofs.vetted.is_witness.Tie as tie
 

@@ -2,7 +2,8 @@
 use native.Mathlib.Omega.{arith}
 use borrow.Author.Needs.{needs}
 use Rattle.pairwise.specs.Pairs.{groupOutcome}
-use Rattle.pairwise.proofs.Parts.{part-row, row-ends, run-short, rows-ready}
+use Rattle.cells.specs.Places.{row-part}
+use Rattle.pairwise.proofs.Parts.{row-ends, run-short, rows-ready}
 use Rattle.pairwise.proofs.vetted.pair.group_outcome.Statement.{statement}
 use Rattle.pairwise.proofs.vetted.pair.group_outcome.Tie as tie
 
@@ -59,14 +60,14 @@ outcome-in-requires c κs =
     let s = c .before .before .before in
     let p = s .pre in
     let a = s .args in
-    rw (part-row (a .columns) (a .rows .now) (a .i), part-row (a .columns) (a .rows .now) (a .j))
+    rw (row-part (a .columns) (a .rows .now) (a .i), row-part (a .columns) (a .rows .now) (a .j))
     (rows-ready (p .0) (a .i) (a .j) (p .1) (p .2))
 
 returns : tie.Need-returns
 unfolding groupOutcome
 returns c =
     let a = c .before .before .before .before .args in
-    rw (← (part-row (a .columns) (a .rows .now) (a .i)), ← (part-row (a .columns) (a .rows .now) (a .j)))
+    rw (← (row-part (a .columns) (a .rows .now) (a .i)), ← (row-part (a .columns) (a .rows .now) (a .j)))
     (c .outcome-in .ensures)
 
 pub group-outcome-spec : {M : Type 1} → statement M
