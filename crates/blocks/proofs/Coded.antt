@@ -3,18 +3,24 @@ use mathlib.Core.Path.{_≡_, refl, sym, _∙_}
 use mathlib.Core.Bool.{Bool, true, false, false≢true}
 use mathlib.Core.Logic.{⊎-elim}
 use mathlib.Core.List.{List}
-use Prim.Native.Nat.{ℕ, _+_, _*_, _/_, _<_, _≤_}
+use Prim.Native.Nat.{ℕ, _+_, _*_, _/_, _%_, _<_, _≤_}
 use native.Mathlib.Omega.{arith}
+use lib.Dec.{ltb}
 use lib.IntN.{ℤ}
 use lib.ListN.{getD, length}
+use borrow.Author.Tests.{ltb-true, ltb-false}
 use Rattle.model.specs.Record.{recordCount, recordAt, isTerm}
 use Rattle.model.specs.Term.{termAt}
 use Rattle.model.specs.Query.{rowAt}
+use Rattle.laws.specs.Bools.{on-or-off}
 use Rattle.laws.specs.Search.{lt-suc-cases}
 use Rattle.laws.specs.Codes.{code}
 use Rattle.laws.specs.Accepted.{Accepted}
 use Rattle.laws.specs.AcceptedTable.{accepted-table}
-use Rattle.blocks.specs.Blocks.{Ready, AtRecord, Coded}
+use Rattle.values.specs.Prepared.{NextTerm}
+use Rattle.cells.specs.Places.{place-in}
+use Rattle.lanes.specs.Wrote.{Wrote}
+use Rattle.blocks.specs.Blocks.{Ready, AtRecord, Coded, AskedCoded, Decided, exitLane}
 
 module _ {table : List ℕ} {marks : List Bool} {columns : ℕ} {rows : List ℤ} {n i b : ℕ} where
   -- Below record 0 there is none.
@@ -45,9 +51,21 @@ module _ {table : List ℕ} {marks : List Bool} {columns : ℕ} {rows : List ℤ
       → Coded table marks columns rows n i b k codes → Coded table marks columns rows n i b (k + 1) codes
   coded-other u c = coded-more c (λ x l. refl) (λ m t. absurd (false≢true (sym u ∙ t)))
 
+  -- Up to the next term there are values only, which have no codes.
+  pub coded-next : {k e m : ℕ} {codes : List ℕ} → NextTerm table k m e → Coded table marks columns rows n i b (k + 1) codes
+      → Coded table marks columns rows n i b e codes
+  coded-next {k} next c =
+      record {
+        each = λ h j l m t small row.
+            ⊎-elim
+            (λ q. c .each h j (ltb-true h (k + 1) q) m t small row)
+            (λ q. absurd (false≢true (sym (next .between h (omega (arith, ltb-false h (k + 1) q)) l) ∙ t)))
+            (on-or-off (ltb h (k + 1)));
+      }
+
 module _ {table : List ℕ} {numbers : List ℤ} {ends : List ℕ} {reach : List (List Bool)} {marks : List Bool}
-    {term columns : ℕ} {rows : List ℤ} {n : ℕ} {ranks values : List ℤ}
-    (ready : Ready table numbers ends reach marks term columns rows n ranks values) where
+    {exits : List ℕ} {term columns : ℕ} {rows : List ℤ} {n stride : ℕ} {ranks values : List ℤ}
+    (ready : Ready table numbers ends reach marks exits term columns rows n stride ranks values) where
   pub ok : Accepted table columns
   ok = ready .taken .isAccepted
 
@@ -62,9 +80,60 @@ module _ {table : List ℕ} {numbers : List ℤ} {ends : List ℕ} {reach : List
     pub record-below : k < 128
     record-below = omega (arith, term-below, at .most)
 
-    -- Row i's block stands in the buffers.
-    pub rank-room : i / 64 * 8192 + 8192 ≤ length ranks
-    rank-room = ready .rankRoom .each (i / 64) (omega (arith, at .row))
+    -- A block takes room for record k's ranks.
+    pub record-wide : k * 64 + 64 ≤ stride
+    record-wide = omega (arith, ready .wide, at .most)
 
+    -- Row i's rank stands in the buffer,
+    pub rank-place : i / 64 * stride + k * 64 + i % 64 < length ranks
+    rank-place = place-in n stride (ready .rankRoom) i k (at .row) record-wide
+
+    -- and so do the ranks of block b,
+    pub ranks-end : b * stride + k * 64 + 64 ≤ length ranks
+    ranks-end = omega (arith, ready .rankRoom .each b (at .block), record-wide)
+
+    -- and the cells of row i's block.
     pub value-room : i / 64 * 512 + 512 ≤ length values
     value-room = ready .valueRoom .each (i / 64) (omega (arith, at .row))
+
+    -- Where record k decides the asked term in all lanes, the exits are its codes.
+    pub asked-by-exits : {old new : List ℕ} → isTerm (recordAt table k) ≡ true
+        → Coded table marks columns rows n i b (k + 1) old → Decided exits k old
+        → Wrote 0 (exitLane exits k old) (term * 64) 64 old new → AskedCoded table term columns rows n i b new
+    unfolding exitLane
+    asked-by-exits {old} is c d w =
+        record {
+          each = λ j small row.
+              w .made j small
+              ∙ sym (ready .exiting .each k (getD old (k * 64 + j) 0) record-below (d .low j small) (d .exit j small)
+              (rowAt columns rows i) (rowAt columns rows (b * 64 + j))
+              (sym (c .each k j (omega arith) (at .marked) is small row)));
+        }
+
+  -- The asked term is marked too.
+  pub asked-coded : {i b : ℕ} {codes : List ℕ} → Coded table marks columns rows n i b (term + 1) codes
+      → AskedCoded table term columns rows n i b codes
+  asked-coded c =
+      record { each = λ j small row. c .each term j (omega arith) (ready .marked .asked) (ready .taken .isRecord) small row }
+
+  -- The first record is a term.
+  pub first-term : isTerm (recordAt table 0) ≡ true
+  first-term = accepted-table table columns ok .first
+
+  module _ {k : ℕ} (is : isTerm (recordAt table k) ≡ true) (before : k < term) where
+    -- After term record k comes the next,
+    pub next-term : NextTerm table k (recordCount table) (getD ends k 0)
+    next-term = ready .runs .each k (omega (arith, before, ready .taken .below)) is .follows
+
+    -- which is not past the asked one,
+    pub next-most : getD ends k 0 ≤ term
+    next-most =
+        ⊎-elim
+        (λ b. absurd
+        (false≢true (sym (next-term .between term before (ltb-true term (getD ends k 0) b)) ∙ ready .taken .isRecord)))
+        (λ b. ltb-false term (getD ends k 0) b)
+        (on-or-off (ltb term (getD ends k 0)))
+
+    -- and a term record too.
+    pub next-is : isTerm (recordAt table (getD ends k 0)) ≡ true
+    next-is = next-term .ends (omega (arith, next-most, ready .taken .below))

@@ -24,11 +24,11 @@ use Rattle.values.specs.Prepared.{Run}
 use Rattle.ranks.specs.Rank.{RankAt}
 use Rattle.blocks.specs.Base.{BaseAsked, BaseRoom, BaseCoded}
 use Rattle.blocks.specs.Blocks.{Ready, AtRecord, Coded}
-use Rattle.blocks.proofs.Coded.{ok, below, record-below, coded-more}
+use Rattle.blocks.proofs.Coded.{ok, below, record-below, ranks-end, coded-more}
 
 module _ {table : List ℕ} {numbers : List ℤ} {ends : List ℕ} {reach : List (List Bool)} {marks : List Bool}
-    {term columns : ℕ} {rows : List ℤ} {n : ℕ} {ranks values : List ℤ}
-    (ready : Ready table numbers ends reach marks term columns rows n ranks values)
+    {exits : List ℕ} {term columns : ℕ} {rows : List ℤ} {n stride : ℕ} {ranks values : List ℤ}
+    (ready : Ready table numbers ends reach marks exits term columns rows n stride ranks values)
     {i b k : ℕ} (at : AtRecord marks term n i b k)
     {column : ℕ} {t : BaseTerm} (is : recordAt table k ≡ Base column t) where
   of-base : AcceptedBase table columns k column t
@@ -49,14 +49,14 @@ module _ {table : List ℕ} {numbers : List ℤ} {ends : List ℕ} {reach : List
   -- and its rank.
   rank-of : (c j : ℕ) → j < 64 → c * 64 + j < n
       → RankAt table k (getD ends k 0) t (getD values (c * 512 + column * 64 + j) (pos 0))
-      (getD ranks (c * 8192 + k * 64 + j) (pos 0))
+      (getD ranks (c * stride + k * 64 + j) (pos 0))
   rank-of c j small row =
       rw (value-is c j small row)
       (ready .ranked .each c j k column t small row (omega (arith, at .most)) (at .marked) is)
 
   -- Row i is lane i % 64 of block i / 64.
   pub base-asked : BaseAsked table reach k (getD ends k 0) t
-      (getD ranks (i / 64 * 8192 + k * 64 + i % 64) (pos 0)) (getD values (i / 64 * 512 + column * 64 + i % 64) (pos 0))
+      (getD ranks (i / 64 * stride + k * 64 + i % 64) (pos 0)) (getD values (i / 64 * 512 + column * 64 + i % 64) (pos 0))
   base-asked =
       record {
         values = run .values;
@@ -76,12 +76,11 @@ module _ {table : List ℕ} {numbers : List ℤ} {ends : List ℕ} {reach : List
 
   -- so that block b stands in the buffers.
   pub base-room : {codes : List ℕ} → 8192 ≤ length codes
-      → BaseRoom k ranks (b * 8192 + k * 64) values (b * 512 + column * 64) codes
+      → BaseRoom k ranks (b * stride + k * 64) values (b * 512 + column * 64) codes
   base-room room =
-      let r = ready .rankRoom .each b (at .block) in
       let v = ready .valueRoom .each b (at .block) in
       record {
-        ranksEnd = omega (arith, r, record-below ready at);
+        ranksEnd = ranks-end ready at;
         valuesEnd = omega (arith, v, column-below);
         codesEnd = omega (arith, record-below ready at);
       }
@@ -98,7 +97,7 @@ module _ {table : List ℕ} {numbers : List ℤ} {ends : List ℕ} {reach : List
 
   -- One base record more.
   pub base-coded : {old new : List ℕ} → Coded table marks columns rows n i b k old
-      → BaseCoded table k (getD ends k 0) t ranks (b * 8192 + k * 64) values (b * 512 + column * 64)
+      → BaseCoded table k (getD ends k 0) t ranks (b * stride + k * 64) values (b * 512 + column * 64)
       (getD values (i / 64 * 512 + column * 64 + i % 64) (pos 0)) old new
       → Coded table marks columns rows n i b (k + 1) new
   base-coded c w =

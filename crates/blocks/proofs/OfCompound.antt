@@ -21,8 +21,8 @@ use Rattle.blocks.specs.Blocks.{Ready, AtRecord, Coded, joinedLane, comp
 use Rattle.blocks.proofs.Coded.{ok, below, coded-more}
 
 module _ {table : List ℕ} {numbers : List ℤ} {ends : List ℕ} {reach : List (List Bool)} {marks : List Bool}
-    {term columns : ℕ} {rows : List ℤ} {n : ℕ} {ranks values : List ℤ}
-    (ready : Ready table numbers ends reach marks term columns rows n ranks values)
+    {exits : List ℕ} {term columns : ℕ} {rows : List ℤ} {n stride : ℕ} {ranks values : List ℤ}
+    (ready : Ready table numbers ends reach marks exits term columns rows n stride ranks values)
     {i b k : ℕ} (at : AtRecord marks term n i b k) where
   pub parts-below : {c : CompoundTerm} → recordAt table k ≡ Compound c → OfParts (λ p. p < k) c
   parts-below {c} is = parts-low table columns k (ok ready) (below ready at) .each k c (omega arith) is

@@ -1,6 +1,7 @@
 // The codes of row i against the rows of block b under each record beneath the asked term, upward. A base record's come from
 // ranks and values, a compound's from its parts' codes and nothing else. No public calls: each asks what was prepared before.
 use crate::vetted::base::base_codes;
+use crate::vetted::early::by_exits;
 use lanes::vetted::compound::or_lanes;
 use lanes::vetted::compound::prior_lanes;
 use lanes::vetted::compound::turned_lanes;
@@ -12,32 +13,35 @@ ghost use Prim.Native.Nat.{_+_, _*_, _<_, _≤_};
 ghost use lib.ListN.{length};
 ghost use Rattle.lanes.specs.Wrote.{Wrote};
 ghost use Rattle.ranks.specs.Beneath.{OfParts};
-ghost use Rattle.blocks.specs.Blocks.{Ready, AtRecord, Coded, joinedLane, compoundLane};
+ghost use Rattle.blocks.specs.Blocks.{Ready, AtRecord, Coded, AskedCoded, joinedLane, compoundLane};
 
 mod base;
+mod early;
 
-// The codes of the records up to the asked one.
+// The asked term's codes, from those of the records up to it, or from the first that decides it in all lanes.
 pub fn block_codes(
     table: &[u8],
     numbers: &[i32; 256],
     ends: &[u8; 128],
     reach: &[[bool; 32]; 256],
     marks: &[bool; 128],
+    exits: &[u8; 512],
     term: u8,
     columns: usize,
     rows: &[i32],
     n: usize,
+    stride: usize,
     ranks: &[i32],
     values: &[i32],
     i: usize,
     b: usize,
     codes: &mut [u8],
 )
-    requires { ⌜ Ready (now table) (now numbers) (now ends) (now reach) (now marks) term columns (now rows) n (now ranks) (now values) × (i < n) × (b * 64 < n) × (8192 ≤ length (now codes)) ⌝ }
-    ensures { λ _. ⌜ Coded (now (table .entry)) (now (marks .entry)) columns (now (rows .entry)) n i b (term + 1) (now (codes .exit)) ⌝ }
+    requires { ⌜ Ready (now table) (now numbers) (now ends) (now reach) (now marks) (now exits) term columns (now rows) n stride (now ranks) (now values) × (i < n) × (b * 64 < n) × (8192 ≤ length (now codes)) ⌝ }
+    ensures { λ _. ⌜ AskedCoded (now (table .entry)) term columns (now (rows .entry)) n i b (now (codes .exit)) ⌝ }
 {
     let mut k = 0u8;
-    while k <= term {
+    while k < term {
         let at = k as usize;
         if marks[at] {
             record_codes(
@@ -46,10 +50,12 @@ pub fn block_codes(
                 ends,
                 reach,
                 marks,
+                exits,
                 term,
                 columns,
                 rows,
                 n,
+                stride,
                 ranks,
                 values,
                 i,
@@ -57,9 +63,31 @@ pub fn block_codes(
                 k,
                 codes,
             );
+            if by_exits(exits, k, term, codes) {
+                return;
+            }
         }
-        k += 1;
+        k = ends[at];
     }
+    record_codes(
+        table,
+        numbers,
+        ends,
+        reach,
+        marks,
+        exits,
+        term,
+        columns,
+        rows,
+        n,
+        stride,
+        ranks,
+        values,
+        i,
+        b,
+        term,
+        codes,
+    );
 }
 
 // The codes of record k, from those of the records below.
@@ -69,10 +97,12 @@ fn record_codes(
     ends: &[u8; 128],
     reach: &[[bool; 32]; 256],
     marks: &[bool; 128],
+    exits: &[u8; 512],
     term: u8,
     columns: usize,
     rows: &[i32],
     n: usize,
+    stride: usize,
     ranks: &[i32],
     values: &[i32],
     i: usize,
@@ -80,7 +110,7 @@ fn record_codes(
     k: u8,
     codes: &mut [u8],
 )
-    requires { ⌜ Ready (now table) (now numbers) (now ends) (now reach) (now marks) term columns (now rows) n (now ranks) (now values) × AtRecord (now marks) term n i b k × (8192 ≤ length (now codes)) × Coded (now table) (now marks) columns (now rows) n i b k (now codes) ⌝ }
+    requires { ⌜ Ready (now table) (now numbers) (now ends) (now reach) (now marks) (now exits) term columns (now rows) n stride (now ranks) (now values) × AtRecord (now marks) term n i b k × (8192 ≤ length (now codes)) × Coded (now table) (now marks) columns (now rows) n i b k (now codes) ⌝ }
     ensures { λ _. ⌜ Coded (now (table .entry)) (now (marks .entry)) columns (now (rows .entry)) n i b (k + 1) (now (codes .exit)) ⌝ }
 {
     match decoded(table, numbers, k) {
@@ -88,7 +118,7 @@ fn record_codes(
         Record::Base(column, t) => {
             let at = k as usize;
             let c = column as usize;
-            let x = ranks[i / 64 * 8192 + at * 64 + i % 64];
+            let x = ranks[i / 64 * stride + at * 64 + i % 64];
             let v = values[i / 64 * 512 + c * 64 + i % 64];
             let e = ends[at];
             base_codes(
@@ -98,7 +128,7 @@ fn record_codes(
                 e,
                 t,
                 ranks,
-                b * 8192 + at * 64,
+                b * stride + at * 64,
                 x,
                 values,
                 b * 512 + c * 64,

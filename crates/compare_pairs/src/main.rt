@@ -1,5 +1,5 @@
-// A million pairs of rows compared under T1 of document 01 by the inner comparison, prepared once, as an engine does it.
-// Prints how many pairs gave each outcome. `bench/compare` times it.
+// A million pairs of rows compared under T1 of document 01 by the comparison behind Compare, prepared once. Prints how many
+// pairs gave each outcome.
 mod vetted;
 
 use case_lines::say;

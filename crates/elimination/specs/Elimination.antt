@@ -33,3 +33,7 @@ pub record Met (beats : Rel ℕ) (n i m : ℕ) (gone : List ℕ) (lost : Bool) :
 -- A row is not gone exactly where it is kept.
 pub record Settled (beats : Rel ℕ) (n : ℕ) (gone : List ℕ) : Type 0 where
   pub each : (j : ℕ) → j < n → eqb (getD gone j 0) 0 ≡ kept n beats j
+
+-- A row that is gone is beaten by the row that `by` names.
+pub record Beaten (beats : Rel ℕ) (n : ℕ) (gone by : List ℕ) : Type 0 where
+  pub each : (j : ℕ) → j < n → (getD gone j 0 ≡ 0 → ⊥) → (getD by j 0 < n) × (beats (getD by j 0) j ≡ true)

@@ -3,4 +3,5 @@ pub mod Elimination
 pub mod Cases
 pub mod Rounds
 pub mod Meetings
+pub mod Beaten
 pub mod Beats

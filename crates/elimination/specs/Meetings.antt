@@ -5,8 +5,12 @@ use mathlib.Core.Logic.{inl, inr, ⊎-elim}
 use mathlib.Core.List.{List}
 use Prim.Native.Nat.{ℕ, _+_, _<_}
 use native.Mathlib.Omega.{arith}
+use lib.Dec.{eqb}
 use lib.ListN.{length, getD, set}
-use lib.Seq.{getD-set-same, getD-set-other}
+use lib.Seq.{getD-set-same, getD-set-other, set-getD}
+use mir.Val.{boolByte}
+use borrow.Author.Tests.{eqb-true}
+use Rattle.laws.specs.Bools.{on-or-off}
 use Rattle.laws.specs.Order.{Rel}
 use Rattle.laws.specs.Select.{dropped-i}
 use Rattle.elimination.specs.Cases.{equal-or-not}
@@ -47,3 +51,18 @@ module _ (beats : Rel ℕ) (n i j : ℕ) (gone : List ℕ) (t : Turn beats n i j
 
       here : (b : ℕ) → getD (set gone j 1) b 0 ≡ 0 → b ≡ j → ⊥
       here b z q = one (sym (getD-set-same gone j 1 0 room) ∙ rw q at z)
+
+  -- Row j is not gone, and the rows have code c: row j goes where it is 1, and row i is beaten where it is 2.
+  pub meet-code : (c : ℕ) → i < n → j < n → j < length gone → getD gone j 0 ≡ 0 → beats i j ≡ eqb c 1 → beats j i ≡ eqb c 2
+      → Met beats n i (j + 1) (set gone j (boolByte (eqb c 1))) (eqb c 2)
+  meet-code c l h room z e f =
+      ⊎-elim
+      (λ p. let q = eqb-true c 1 p in rw q (meet-wins l room (rw q at e)))
+      (λ p. rw p (rw kept (⊎-elim
+      (λ q. rw q (meet-beaten h (f ∙ q)))
+      (λ q. rw q (meet-apart l (e ∙ p) (f ∙ q)))
+      (on-or-off (eqb c 2)))))
+      (on-or-off (eqb c 1))
+    where
+      kept : set gone j 0 ≡ gone
+      kept = rw z at (set-getD gone j 0)

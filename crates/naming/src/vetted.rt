@@ -22,18 +22,20 @@ pub fn name(
     ends: &[u8; 128],
     reach: &[[bool; 32]; 256],
     marks: &[bool; 128],
+    exits: &[u8; 512],
     term: u8,
     group: u8,
     columns: usize,
     rows: &[i32],
     n: usize,
+    stride: usize,
     ranks: &[i32],
     values: &[i32],
     gone: &[u8],
     by: &mut [u16],
     codes: &mut [u8],
 )
-    requires { ⌜ Ready (now table) (now numbers) (now ends) (now reach) (now marks) term columns (now rows) n (now ranks) (now values)
+    requires { ⌜ Ready (now table) (now numbers) (now ends) (now reach) (now marks) (now exits) term columns (now rows) n stride (now ranks) (now values)
         × (length (now gone) ≡ 1024) × (length (now by) ≡ 1024) × (8192 ≤ length (now codes))
         × Settled (beatsIn (termAt (now table) term) columns (now rows) group) n (now gone)
         × Beyond n (now by)
@@ -48,11 +50,13 @@ pub fn name(
             ends,
             reach,
             marks,
+            exits,
             term,
             group,
             columns,
             rows,
             n,
+            stride,
             ranks,
             values,
             i,
@@ -71,11 +75,13 @@ fn name_or_skip(
     ends: &[u8; 128],
     reach: &[[bool; 32]; 256],
     marks: &[bool; 128],
+    exits: &[u8; 512],
     term: u8,
     group: u8,
     columns: usize,
     rows: &[i32],
     n: usize,
+    stride: usize,
     ranks: &[i32],
     values: &[i32],
     i: usize,
@@ -83,7 +89,7 @@ fn name_or_skip(
     by: &mut [u16],
     codes: &mut [u8],
 )
-    requires { ⌜ Ready (now table) (now numbers) (now ends) (now reach) (now marks) term columns (now rows) n (now ranks) (now values)
+    requires { ⌜ Ready (now table) (now numbers) (now ends) (now reach) (now marks) (now exits) term columns (now rows) n stride (now ranks) (now values)
         × (i < n) × (length (now gone) ≡ 1024) × (length (now by) ≡ 1024) × (8192 ≤ length (now codes))
         × Settled (beatsIn (termAt (now table) term) columns (now rows) group) n (now gone)
         × Beyond n (now by)
@@ -98,11 +104,13 @@ fn name_or_skip(
             ends,
             reach,
             marks,
+            exits,
             term,
             group,
             columns,
             rows,
             n,
+            stride,
             ranks,
             values,
             i,
@@ -120,11 +128,13 @@ fn name_row(
     ends: &[u8; 128],
     reach: &[[bool; 32]; 256],
     marks: &[bool; 128],
+    exits: &[u8; 512],
     term: u8,
     group: u8,
     columns: usize,
     rows: &[i32],
     n: usize,
+    stride: usize,
     ranks: &[i32],
     values: &[i32],
     i: usize,
@@ -132,7 +142,7 @@ fn name_row(
     by: &mut [u16],
     codes: &mut [u8],
 )
-    requires { ⌜ Ready (now table) (now numbers) (now ends) (now reach) (now marks) term columns (now rows) n (now ranks) (now values)
+    requires { ⌜ Ready (now table) (now numbers) (now ends) (now reach) (now marks) (now exits) term columns (now rows) n stride (now ranks) (now values)
         × (i < n) × (length (now gone) ≡ 1024) × (length (now by) ≡ 1024) × (8192 ≤ length (now codes))
         × Settled (beatsIn (termAt (now table) term) columns (now rows) group) n (now gone)
         × (getD (now gone) i 0 ≡ 0) × Beyond n (now by)
@@ -148,11 +158,13 @@ fn name_row(
             ends,
             reach,
             marks,
+            exits,
             term,
             group,
             columns,
             rows,
             n,
+            stride,
             ranks,
             values,
             i,
@@ -172,11 +184,13 @@ fn name_block(
     ends: &[u8; 128],
     reach: &[[bool; 32]; 256],
     marks: &[bool; 128],
+    exits: &[u8; 512],
     term: u8,
     group: u8,
     columns: usize,
     rows: &[i32],
     n: usize,
+    stride: usize,
     ranks: &[i32],
     values: &[i32],
     i: usize,
@@ -185,7 +199,7 @@ fn name_block(
     by: &mut [u16],
     codes: &mut [u8],
 )
-    requires { ⌜ Ready (now table) (now numbers) (now ends) (now reach) (now marks) term columns (now rows) n (now ranks) (now values)
+    requires { ⌜ Ready (now table) (now numbers) (now ends) (now reach) (now marks) (now exits) term columns (now rows) n stride (now ranks) (now values)
         × (i < n) × (b * 64 < n) × (length (now gone) ≡ 1024) × (length (now by) ≡ 1024) × (8192 ≤ length (now codes))
         × Settled (beatsIn (termAt (now table) term) columns (now rows) group) n (now gone)
         × (getD (now gone) i 0 ≡ 0) × Beyond n (now by)
@@ -202,10 +216,12 @@ fn name_block(
             ends,
             reach,
             marks,
+            exits,
             term,
             columns,
             rows,
             n,
+            stride,
             ranks,
             values,
             i,

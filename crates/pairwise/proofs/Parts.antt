@@ -7,37 +7,30 @@ use native.Mathlib.Nat.{mul-le-mul-left, mul-le-mul-right}
 use native.Mathlib.Omega.{arith}
 use lib.IntN.{ℤ}
 use lib.ListN.{length}
+use Rattle.model.specs.Better.{Row}
 use Rattle.model.specs.Query.{rowAt}
 use Rattle.laws.specs.AcceptedTable.{accepted-table}
 use Rattle.cells.specs.Places.{row-in, row-length}
-use Rattle.outcomes.specs.Rows.{Ready}
-use Rattle.pairwise.specs.Pairs.{Comparable}
+use Rattle.pair_codes.specs.Pairs.{Comparable, RowOf}
 
-module _ {table : List ℕ} {numbers : List ℤ} {ends : List ℕ} {reach : List (List Bool)} {term columns : ℕ} {rows : List ℤ}
-    {n : ℕ} (c : Comparable table numbers ends reach term columns rows n) where
+module _ {table : List ℕ} {numbers : List ℤ} {ends : List ℕ} {reach : List (List Bool)} {marks : List Bool} {exits : List ℕ}
+    {term columns : ℕ} {rows : List ℤ} {n stride : ℕ} {ranks : List ℤ}
+    (c : Comparable table numbers ends reach marks exits term columns rows n stride ranks) where
   -- A row of the run ends inside it,
   pub row-ends : {i : ℕ} → i < n → i * columns + columns ≤ length rows
   row-ends {i} l = row-in n columns (length rows) (c .run) i l
+
+  -- at most 8 columns are there,
+  pub few-columns : columns ≤ 8
+  few-columns = accepted-table table columns (c .taken .isAccepted) .fewColumns
 
   -- and a run is at most 1,024 rows of 8 cells.
   pub run-short : length rows ≤ 8192
   run-short =
       let a = mul-le-mul-right columns (c .few) in
-      let b = mul-le-mul-left 1024 (accepted-table table columns (c .taken .isAccepted) .fewColumns) in
+      let b = mul-le-mul-left 1024 few-columns in
       omega (arith, c .run)
 
-  -- Two rows of the run can be compared.
-  pub rows-ready : (i j : ℕ) → i < n → j < n
-      → Ready table numbers ends reach term (rowAt columns rows i) (rowAt columns rows j)
-  rows-ready i j l h =
-      record {
-        asked = record {
-          columns = columns;
-          taken = c .taken;
-          firstFits = row-length columns rows n (c .run) i l;
-          secondFits = row-length columns rows n (c .run) j h;
-        };
-        prepared = c .prepared;
-        runs = c .runs;
-        reached = c .reached;
-      }
+  -- A row of the run has the run's columns.
+  pub row-fits : {i : ℕ} {row : Row} → RowOf columns rows n i row → length row ≡ columns
+  row-fits {i} r = rw (r .is) (row-length columns rows n (c .run) i (r .below))

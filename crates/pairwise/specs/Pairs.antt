@@ -1,27 +1,20 @@
--- What the direct engine compares rows with, and the outcome of two rows of one run.
+-- What the direct engine keeps while rows meet, and the outcome of two rows of one run.
 use mathlib.Core.Path.{_≡_}
-use mathlib.Core.Bool.{Bool, cond}
+use mathlib.Core.Bool.{cond}
 use mathlib.Core.List.{List}
-use Prim.Native.Nat.{ℕ, _*_, _≤_}
+use Prim.Native.Nat.{ℕ}
 use lib.IntN.{ℤ}
-use lib.ListN.{length}
 use Rattle.model.specs.declared.{Outcome.Outcome}
 use Rattle.model.specs.Term.{Term}
 use Rattle.model.specs.Better.{Row, equalIn}
 use Rattle.model.specs.Compare.{outcome}
 use Rattle.model.specs.Query.{rowAt}
-use Rattle.laws.specs.Taken.{TakenTerm}
-use Rattle.values.specs.Prepared.{Numbers, RunEnds, Reached}
 
--- A term record of an accepted table with what is prepared of its values, and a run of n rows.
-pub record Comparable (table : List ℕ) (numbers : List ℤ) (ends : List ℕ) (reach : List (List Bool)) (term columns : ℕ)
-    (rows : List ℤ) (n : ℕ) : Type 0 where
-  pub taken : TakenTerm table columns term
-  pub prepared : Numbers table numbers
-  pub runs : RunEnds table ends
-  pub reached : Reached table ends reach
-  pub run : length rows ≡ n * columns
-  pub few : n ≤ 1024
+-- Room for 1,024 rows that are gone and the rows that beat them, and for a code of each record.
+pub record Buffers (gone by codes : ℕ) : Type 0 where
+  pub ofGone : gone ≡ 1024
+  pub ofBy : by ≡ 1024
+  pub ofCodes : codes ≡ 128
 
 -- The outcome of two rows; unranked where they are in different groups.
 unfoldable pub outcomeIn : Term → ℕ → Row → Row → Outcome

@@ -2,7 +2,9 @@
 use mathlib.Core.Path.{_≡_}
 use mathlib.Core.Bool.{Bool}
 use mathlib.Core.List.{List}
-use Prim.Native.Nat.{ℕ, _+_}
+use Prim.Native.Nat.{ℕ, _+_, _*_, _/_, _<_, _≤_}
+use native.Mathlib.Nat.{mul-le-mul-right, suc-mul}
+use native.Mathlib.Omega.{arith}
 use lib.IntN.{ℤ}
 use lib.ListN.{length}
 use Rattle.model.specs.Term.{termAt}
@@ -12,11 +14,13 @@ use Rattle.laws.specs.Rows.{beats-strict}
 use Rattle.laws.specs.Strict.{ordered}
 use Rattle.laws.specs.Taken.{TakenTerm, taken-sound}
 use Rattle.values.specs.Prepared.{Numbers, RunEnds, Reached}
+use Rattle.exits.specs.Exits.{Exits}
 use Rattle.cells.specs.Values.{Room, Valued}
 use Rattle.ranks.specs.Beneath.{Marked}
 use Rattle.ranks.specs.Ranked.{Ranked, Rankable}
 use Rattle.blocks.specs.Blocks.{Ready}
-use Rattle.query.specs.Selected.{AskedRows}
+use Rattle.query.specs.Selected.{AskedRows, StrideFor}
+use Rattle.query.proofs.Taken.{term-below}
 
 -- The asked term orders the rows of a set strictly.
 pub strict-rows : {table : List ℕ} {columns term : ℕ} → TakenTerm table columns term → (rows : List ℤ) (group : ℕ)
@@ -29,29 +33,71 @@ strict-rows {table} {columns} {term} t rows group =
 pub same-room : {n size old new : ℕ} → new ≡ old → Room n size old → Room n size new
 same-room e r = rw e r
 
-module _ {table : List ℕ} {columns term : ℕ} {rows : List ℤ} {n : ℕ} (asked : AskedRows table columns term rows n) where
+-- Room for the blocks of n rows is room for each.
+pub room-for : (n stride size : ℕ) → (n + 63) / 64 * stride ≤ size → Room n stride size
+room-for n stride size h =
+    record {
+      each = λ b l.
+          let k : b < (n + 63) / 64 = omega (arith, l) in
+          let m = mul-le-mul-right stride k in
+          omega (arith, h, m, suc-mul b stride);
+    }
+
+-- Rows of that many blocks at most.
+pub room-for-blocks : (n stride count size : ℕ) → n ≤ count * 64 → count * stride ≤ size → Room n stride size
+room-for-blocks n stride count size h k =
+    let b : (n + 63) / 64 ≤ count = omega (arith, h) in
+    let m = mul-le-mul-right stride b in
+    room-for n stride size (omega (arith, k, m))
+
+-- There are at most 16 blocks of at most 128 records.
+pub most-ranks : (n stride : ℕ) → n ≤ 1024 → stride ≤ 8192 → (n + 63) / 64 * stride ≤ 131072
+most-ranks n stride h k =
+    let b : (n + 63) / 64 ≤ 16 = omega (arith, h) in
+    let m = mul-le-mul-right stride b in
+    omega (arith, k, m)
+
+-- The stride of the records up to the term.
+pub stride-for : {table : List ℕ} {columns term : ℕ} → TakenTerm table columns term → StrideFor term (term * 64 + 64)
+stride-for t = record { wide = omega arith; narrow = omega (arith, term-below t) }
+
+module _ {table : List ℕ} {columns term : ℕ} {rows : List ℤ} {n stride : ℕ}
+    (asked : AskedRows table columns term rows n) (strides : StrideFor term stride) where
   -- What the rows' ranks are made from,
   pub rankable : {numbers : List ℤ} {ends : List ℕ} {marks : List Bool} {size : ℕ}
-      → Numbers table numbers → RunEnds table ends → Marked table term marks → Room n 8192 size
-      → Rankable table numbers ends marks term columns rows n size
+      → Numbers table numbers → RunEnds table ends → Marked table term marks → Room n stride size
+      → Rankable table numbers ends marks term columns rows n stride size
   rankable a e m room =
-      record { taken = asked .taken; prepared = a; runs = e; marked = m .room; run = asked .run; room = room }
+      record {
+        taken = asked .taken;
+        prepared = a;
+        runs = e;
+        marked = m .room;
+        run = asked .run;
+        wide = strides .wide;
+        narrow = strides .narrow;
+        room = room;
+      }
 
   -- and all that is prepared.
-  pub ready : {numbers : List ℤ} {ends : List ℕ} {reach : List (List Bool)} {marks : List Bool} {ranks values : List ℤ}
+  pub ready : {numbers : List ℤ} {ends : List ℕ} {reach : List (List Bool)} {marks : List Bool}
+      {exits : List ℕ} {ranks values : List ℤ}
       → Numbers table numbers → RunEnds table ends → Reached table ends reach → Marked table term marks
-      → Ranked table ends marks columns rows n (term + 1) ranks → Room n 8192 (length ranks)
+      → Exits table term exits → Ranked table ends marks columns rows n stride (term + 1) ranks → Room n stride (length ranks)
       → Valued columns rows n columns values → Room n 512 (length values)
-      → Ready table numbers ends reach marks term columns rows n ranks values
-  ready a e g m ranked rankRoom valued valueRoom =
+      → Ready table numbers ends reach marks exits term columns rows n stride ranks values
+  ready a e g m x ranked rankRoom valued valueRoom =
       record {
         taken = asked .taken;
         prepared = a;
         runs = e;
         reached = g;
         marked = m;
+        exiting = x;
         run = asked .run;
         few = asked .few;
+        wide = strides .wide;
+        narrow = strides .narrow;
         ranked = ranked;
         rankRoom = rankRoom;
         valued = valued;

@@ -1,7 +1,7 @@
 -- What an engine is asked, and what it does (document 01, "Query").
 use mathlib.Core.Path.{_≡_}
 use mathlib.Core.List.{List}
-use Prim.Native.Nat.{ℕ, _*_, _≤_}
+use Prim.Native.Nat.{ℕ, _+_, _*_, _≤_}
 use lib.IntN.{ℤ}
 use lib.ListN.{length}
 use Rattle.model.specs.Search.{fill}
@@ -14,6 +14,11 @@ pub record AskedRows (table : List ℕ) (columns term : ℕ) (rows : List ℤ) (
   pub taken : TakenTerm table columns term
   pub run : length rows ≡ n * columns
   pub few : n ≤ 1024
+
+-- A block of ranks has 64 for each record up to the term, and no more than 128 records need.
+pub record StrideFor (term stride : ℕ) : Type 0 where
+  pub wide : term * 64 + 64 ≤ stride
+  pub narrow : stride ≤ 8192
 
 -- It returns how many of n rows are kept, and writes each row's entry. `beats j i` reads "row j is in row i's set and
 -- better".

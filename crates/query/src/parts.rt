@@ -5,6 +5,7 @@ use cells::vetted::values::fill_values;
 use entries::vetted::none_gone;
 use entries::vetted::none_named;
 use entries::vetted::write_answers;
+use exits::vetted::exits;
 use naming::vetted::name;
 use ranks::vetted::beneath::beneath;
 use ranks::vetted::fill::fill_ranks;
@@ -21,9 +22,10 @@ ghost use Rattle.laws.specs.Taken.{Taken};
 ghost use Rattle.elimination.specs.Elimination.{Settled};
 ghost use Rattle.cells.specs.Values.{Room};
 ghost use Rattle.blocks.specs.Blocks.{Ready};
-ghost use Rattle.query.specs.Selected.{AskedRows, Selected};
+ghost use Rattle.query.specs.Selected.{AskedRows, StrideFor, Selected};
 
-// Writes the entries. Returns how many rows are kept. Few rows need room for few blocks: clearing it all costs more than they do.
+// Writes the entries. Returns how many rows are kept. A block's ranks are 64 for each record up to the term. Few rows and few
+// records need little room: clearing it all costs more than they do.
 pub fn selected(
     table: &[u8],
     columns: usize,
@@ -37,116 +39,344 @@ pub fn selected(
         (rowCount columns (now (rows .entry))) (now (answers .entry)) (now (answers .exit)) r ⌝ }
 {
     let n = rows.len() / columns;
+    let stride = (term as usize) * 64 + 64;
     if n <= 64 {
-        return in_one_block(table, columns, rows, n, term, group, answers);
+        return in_one_block(table, columns, rows, n, stride, term, group, answers);
     }
     if n <= 256 {
-        return in_four_blocks(table, columns, rows, n, term, group, answers);
+        return in_four_blocks(table, columns, rows, n, stride, term, group, answers);
     }
-    in_blocks(table, columns, rows, n, term, group, answers)
+    in_blocks(table, columns, rows, n, stride, term, group, answers)
 }
 
-// Room for one block of ranks and cells: the records' ranks of 64 rows, and their cells.
+// One block of up to 64 rows: 16 records, or all 128.
 fn in_one_block(
     table: &[u8],
     columns: usize,
     rows: &[i32],
     n: usize,
+    stride: usize,
     term: u8,
     group: u8,
     answers: &mut [u16],
 ) -> u16
-    requires { ⌜ AskedRows (now table) columns term (now rows) n × (n ≤ 64) × (n ≤ length (now answers)) ⌝ }
+    requires { ⌜ AskedRows (now table) columns term (now rows) n × StrideFor term stride × (n ≤ 64) × (n ≤ length (now answers)) ⌝ }
     ensures { λ r. ⌜ Selected (beatsIn (termAt (now (table .entry)) term) columns (now (rows .entry)) group) n
         (now (answers .entry)) (now (answers .exit)) r ⌝ }
 {
-    let mut ranks = [0i32; 8192];
-    let mut values = [0i32; 512];
-    prepared(
+    let mut cells = [0i32; 512];
+    if stride <= 1024 {
+        return in_1024_ranks(
+            table,
+            columns,
+            rows,
+            n,
+            stride,
+            term,
+            group,
+            &mut cells,
+            answers,
+        );
+    }
+    in_8192_ranks(
         table,
         columns,
         rows,
         n,
+        stride,
         term,
         group,
-        &mut ranks,
-        &mut values,
+        &mut cells,
         answers,
     )
 }
 
-// Room for four blocks.
+// Four blocks: 32 records, or more.
 fn in_four_blocks(
     table: &[u8],
     columns: usize,
     rows: &[i32],
     n: usize,
+    stride: usize,
     term: u8,
     group: u8,
     answers: &mut [u16],
 ) -> u16
-    requires { ⌜ AskedRows (now table) columns term (now rows) n × (n ≤ 256) × (n ≤ length (now answers)) ⌝ }
+    requires { ⌜ AskedRows (now table) columns term (now rows) n × StrideFor term stride × (n ≤ 256) × (n ≤ length (now answers)) ⌝ }
     ensures { λ r. ⌜ Selected (beatsIn (termAt (now (table .entry)) term) columns (now (rows .entry)) group) n
         (now (answers .entry)) (now (answers .exit)) r ⌝ }
 {
-    let mut ranks = [0i32; 32768];
-    let mut values = [0i32; 2048];
-    prepared(
+    let mut cells = [0i32; 2048];
+    if stride <= 2048 {
+        return in_8192_ranks(
+            table,
+            columns,
+            rows,
+            n,
+            stride,
+            term,
+            group,
+            &mut cells,
+            answers,
+        );
+    }
+    in_many_ranks(
         table,
         columns,
         rows,
         n,
+        stride,
         term,
         group,
-        &mut ranks,
-        &mut values,
+        &mut cells,
         answers,
     )
 }
 
-// Room for all 16 blocks of 1,024 rows.
+// All 16 blocks of 1,024 rows: 8 records, or more.
 fn in_blocks(
     table: &[u8],
     columns: usize,
     rows: &[i32],
     n: usize,
+    stride: usize,
     term: u8,
     group: u8,
     answers: &mut [u16],
 ) -> u16
-    requires { ⌜ AskedRows (now table) columns term (now rows) n × (n ≤ length (now answers)) ⌝ }
+    requires { ⌜ AskedRows (now table) columns term (now rows) n × StrideFor term stride × (n ≤ length (now answers)) ⌝ }
     ensures { λ r. ⌜ Selected (beatsIn (termAt (now (table .entry)) term) columns (now (rows .entry)) group) n
         (now (answers .entry)) (now (answers .exit)) r ⌝ }
 {
-    let mut ranks = [0i32; 131072];
-    let mut values = [0i32; 8192];
+    let mut cells = [0i32; 8192];
+    if stride <= 512 {
+        return in_8192_ranks(
+            table,
+            columns,
+            rows,
+            n,
+            stride,
+            term,
+            group,
+            &mut cells,
+            answers,
+        );
+    }
+    in_many_ranks(
+        table,
+        columns,
+        rows,
+        n,
+        stride,
+        term,
+        group,
+        &mut cells,
+        answers,
+    )
+}
+
+// Room for more than 8,192 ranks: apart from the others, since a large frame takes time to enter.
+fn in_many_ranks(
+    table: &[u8],
+    columns: usize,
+    rows: &[i32],
+    n: usize,
+    stride: usize,
+    term: u8,
+    group: u8,
+    cells: &mut [i32],
+    answers: &mut [u16],
+) -> u16
+    requires { ⌜ AskedRows (now table) columns term (now rows) n × StrideFor term stride × Room n 512 (length (now cells))
+        × (n ≤ length (now answers)) ⌝ }
+    ensures { λ r. ⌜ Selected (beatsIn (termAt (now (table .entry)) term) columns (now (rows .entry)) group) n
+        (now (answers .entry)) (now (answers .exit)) r ⌝ }
+{
+    let size = (n + 63) / 64 * stride;
+    if size <= 16384 {
+        return in_16384_ranks(table, columns, rows, n, stride, term, group, cells, answers);
+    }
+    if size <= 32768 {
+        return in_32768_ranks(table, columns, rows, n, stride, term, group, cells, answers);
+    }
+    in_131072_ranks(table, columns, rows, n, stride, term, group, cells, answers)
+}
+
+// Room for 1,024 ranks.
+fn in_1024_ranks(
+    table: &[u8],
+    columns: usize,
+    rows: &[i32],
+    n: usize,
+    stride: usize,
+    term: u8,
+    group: u8,
+    cells: &mut [i32],
+    answers: &mut [u16],
+) -> u16
+    requires { ⌜ AskedRows (now table) columns term (now rows) n × StrideFor term stride × Room n stride 1024
+        × Room n 512 (length (now cells)) × (n ≤ length (now answers)) ⌝ }
+    ensures { λ r. ⌜ Selected (beatsIn (termAt (now (table .entry)) term) columns (now (rows .entry)) group) n
+        (now (answers .entry)) (now (answers .exit)) r ⌝ }
+{
+    let mut ranks = [0i32; 1024];
     prepared(
         table,
         columns,
         rows,
         n,
+        stride,
         term,
         group,
         &mut ranks,
-        &mut values,
+        cells,
         answers,
     )
 }
 
-// Prepares the table's values, the marks beneath the term, and the rows' cells and ranks.
+// Room for 8,192 ranks.
+fn in_8192_ranks(
+    table: &[u8],
+    columns: usize,
+    rows: &[i32],
+    n: usize,
+    stride: usize,
+    term: u8,
+    group: u8,
+    cells: &mut [i32],
+    answers: &mut [u16],
+) -> u16
+    requires { ⌜ AskedRows (now table) columns term (now rows) n × StrideFor term stride × Room n stride 8192
+        × Room n 512 (length (now cells)) × (n ≤ length (now answers)) ⌝ }
+    ensures { λ r. ⌜ Selected (beatsIn (termAt (now (table .entry)) term) columns (now (rows .entry)) group) n
+        (now (answers .entry)) (now (answers .exit)) r ⌝ }
+{
+    let mut ranks = [0i32; 8192];
+    prepared(
+        table,
+        columns,
+        rows,
+        n,
+        stride,
+        term,
+        group,
+        &mut ranks,
+        cells,
+        answers,
+    )
+}
+
+// Room for 16,384 ranks: 16 records of 16 blocks.
+fn in_16384_ranks(
+    table: &[u8],
+    columns: usize,
+    rows: &[i32],
+    n: usize,
+    stride: usize,
+    term: u8,
+    group: u8,
+    cells: &mut [i32],
+    answers: &mut [u16],
+) -> u16
+    requires { ⌜ AskedRows (now table) columns term (now rows) n × StrideFor term stride × Room n stride 16384
+        × Room n 512 (length (now cells)) × (n ≤ length (now answers)) ⌝ }
+    ensures { λ r. ⌜ Selected (beatsIn (termAt (now (table .entry)) term) columns (now (rows .entry)) group) n
+        (now (answers .entry)) (now (answers .exit)) r ⌝ }
+{
+    let mut ranks = [0i32; 16384];
+    prepared(
+        table,
+        columns,
+        rows,
+        n,
+        stride,
+        term,
+        group,
+        &mut ranks,
+        cells,
+        answers,
+    )
+}
+
+// Room for 32,768 ranks: all 128 records of four blocks, or 32 of 16.
+fn in_32768_ranks(
+    table: &[u8],
+    columns: usize,
+    rows: &[i32],
+    n: usize,
+    stride: usize,
+    term: u8,
+    group: u8,
+    cells: &mut [i32],
+    answers: &mut [u16],
+) -> u16
+    requires { ⌜ AskedRows (now table) columns term (now rows) n × StrideFor term stride × Room n stride 32768
+        × Room n 512 (length (now cells)) × (n ≤ length (now answers)) ⌝ }
+    ensures { λ r. ⌜ Selected (beatsIn (termAt (now (table .entry)) term) columns (now (rows .entry)) group) n
+        (now (answers .entry)) (now (answers .exit)) r ⌝ }
+{
+    let mut ranks = [0i32; 32768];
+    prepared(
+        table,
+        columns,
+        rows,
+        n,
+        stride,
+        term,
+        group,
+        &mut ranks,
+        cells,
+        answers,
+    )
+}
+
+// Room for 131,072 ranks: all 128 records of 16 blocks.
+fn in_131072_ranks(
+    table: &[u8],
+    columns: usize,
+    rows: &[i32],
+    n: usize,
+    stride: usize,
+    term: u8,
+    group: u8,
+    cells: &mut [i32],
+    answers: &mut [u16],
+) -> u16
+    requires { ⌜ AskedRows (now table) columns term (now rows) n × StrideFor term stride × Room n stride 131072
+        × Room n 512 (length (now cells)) × (n ≤ length (now answers)) ⌝ }
+    ensures { λ r. ⌜ Selected (beatsIn (termAt (now (table .entry)) term) columns (now (rows .entry)) group) n
+        (now (answers .entry)) (now (answers .exit)) r ⌝ }
+{
+    let mut ranks = [0i32; 131072];
+    prepared(
+        table,
+        columns,
+        rows,
+        n,
+        stride,
+        term,
+        group,
+        &mut ranks,
+        cells,
+        answers,
+    )
+}
+
+// Prepares the table's values, the marks beneath the term, the outcomes that decide it, and the rows' cells and ranks.
 fn prepared(
     table: &[u8],
     columns: usize,
     rows: &[i32],
     n: usize,
+    stride: usize,
     term: u8,
     group: u8,
     ranks: &mut [i32],
-    values: &mut [i32],
+    cells: &mut [i32],
     answers: &mut [u16],
 ) -> u16
-    requires { ⌜ AskedRows (now table) columns term (now rows) n × Room n 8192 (length (now ranks))
-        × Room n 512 (length (now values)) × (n ≤ length (now answers)) ⌝ }
+    requires { ⌜ AskedRows (now table) columns term (now rows) n × StrideFor term stride × Room n stride (length (now ranks))
+        × Room n 512 (length (now cells)) × (n ≤ length (now answers)) ⌝ }
     ensures { λ r. ⌜ Selected (beatsIn (termAt (now (table .entry)) term) columns (now (rows .entry)) group) n
         (now (answers .entry)) (now (answers .exit)) r ⌝ }
 {
@@ -154,21 +384,24 @@ fn prepared(
     let e = run_ends(table);
     let g = closures(table, &e);
     let marks = beneath(table, &a, term);
-    fill_values(columns, rows, n, values);
-    fill_ranks(table, &a, &e, &marks, term, columns, rows, n, ranks);
+    let x = exits(table, &a, term);
+    fill_values(columns, rows, n, cells);
+    fill_ranks(table, &a, &e, &marks, term, columns, rows, n, stride, ranks);
     by_blocks(
         table,
         &a,
         &e,
         &g,
         &marks,
+        &x,
         term,
         group,
         columns,
         rows,
         n,
+        stride,
         ranks,
-        values,
+        cells,
         answers,
     )
 }
@@ -180,16 +413,18 @@ fn by_blocks(
     ends: &[u8; 128],
     reach: &[[bool; 32]; 256],
     marks: &[bool; 128],
+    exits: &[u8; 512],
     term: u8,
     group: u8,
     columns: usize,
     rows: &[i32],
     n: usize,
+    stride: usize,
     ranks: &[i32],
     values: &[i32],
     answers: &mut [u16],
 ) -> u16
-    requires { ⌜ Ready (now table) (now numbers) (now ends) (now reach) (now marks) term columns (now rows) n
+    requires { ⌜ Ready (now table) (now numbers) (now ends) (now reach) (now marks) (now exits) term columns (now rows) n stride
         (now ranks) (now values) × (n ≤ length (now answers)) ⌝ }
     ensures { λ r. ⌜ Selected (beatsIn (termAt (now (table .entry)) term) columns (now (rows .entry)) group) n
         (now (answers .entry)) (now (answers .exit)) r ⌝ }
@@ -203,11 +438,13 @@ fn by_blocks(
         ends,
         reach,
         marks,
+        exits,
         term,
         group,
         columns,
         rows,
         n,
+        stride,
         ranks,
         values,
         &mut gone,
@@ -219,11 +456,13 @@ fn by_blocks(
         ends,
         reach,
         marks,
+        exits,
         term,
         group,
         columns,
         rows,
         n,
+        stride,
         ranks,
         values,
         &gone,
@@ -239,18 +478,20 @@ fn named(
     ends: &[u8; 128],
     reach: &[[bool; 32]; 256],
     marks: &[bool; 128],
+    exits: &[u8; 512],
     term: u8,
     group: u8,
     columns: usize,
     rows: &[i32],
     n: usize,
+    stride: usize,
     ranks: &[i32],
     values: &[i32],
     gone: &[u8],
     codes: &mut [u8],
     answers: &mut [u16],
 ) -> u16
-    requires { ⌜ Ready (now table) (now numbers) (now ends) (now reach) (now marks) term columns (now rows) n
+    requires { ⌜ Ready (now table) (now numbers) (now ends) (now reach) (now marks) (now exits) term columns (now rows) n stride
         (now ranks) (now values) × (length (now gone) ≡ 1024) × Settled (beatsIn (termAt (now table) term) columns (now rows) group) n (now gone)
         × (8192 ≤ length (now codes)) × (n ≤ length (now answers)) ⌝ }
     ensures { λ r. ⌜ Selected (beatsIn (termAt (now (table .entry)) term) columns (now (rows .entry)) group) n
@@ -264,11 +505,13 @@ fn named(
         ends,
         reach,
         marks,
+        exits,
         term,
         group,
         columns,
         rows,
         n,
+        stride,
         ranks,
         values,
         gone,

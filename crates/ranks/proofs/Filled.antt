@@ -46,26 +46,26 @@ pub rank-in : (table ends : List ℕ) (columns : ℕ) (rows : List ℤ) (k : ℕ
 rank-in table ends columns rows k e marks r x h column t m e′ =
     subst (RankBy table k (getD ends k 0) (rowAt columns rows r) x) (sym e ∙ e′) h
 
-module _ {table ends : List ℕ} {marks : List Bool} {columns : ℕ} {rows : List ℤ} {n k : ℕ} {ranks : List ℤ} where
+module _ {table ends : List ℕ} {marks : List Bool} {columns : ℕ} {rows : List ℤ} {n stride k : ℕ} {ranks : List ℤ} where
   -- No row yet.
-  pub ranked-start : Ranked table ends marks columns rows n k ranks
-      → Placed (pos 0) (RankIn table ends marks columns rows) 8192 n k 0 ranks
+  pub ranked-start : Ranked table ends marks columns rows n stride k ranks
+      → Placed (pos 0) (RankIn table ends marks columns rows) stride n k 0 ranks
   ranked-start r =
-      placed-none (pos 0) (RankIn table ends marks columns rows) 8192 n k ranks
+      placed-none (pos 0) (RankIn table ends marks columns rows) stride n k ranks
       (λ b j h l m o column t d e. r .each b j h column t l m o d e)
 
   -- All rows.
-  pub ranked-all : Placed (pos 0) (RankIn table ends marks columns rows) 8192 n k n ranks
-      → Ranked table ends marks columns rows n (k + 1) ranks
+  pub ranked-all : Placed (pos 0) (RankIn table ends marks columns rows) stride n k n ranks
+      → Ranked table ends marks columns rows n stride (k + 1) ranks
   ranked-all p =
       record {
         each = λ b j h column t l m o d e.
-            placed-all (pos 0) (RankIn table ends marks columns rows) 8192 n k ranks p b j h l m o column t d e;
+            placed-all (pos 0) (RankIn table ends marks columns rows) stride n k ranks p b j h l m o column t d e;
       }
 
   -- A record that is not marked, or is no base record, has no ranks.
   pub ranked-other : ((column : ℕ) (t : BaseTerm) → getD marks k false ≡ true → recordAt table k ≡ Base column t → ⊥)
-      → Ranked table ends marks columns rows n k ranks → Ranked table ends marks columns rows n (k + 1) ranks
+      → Ranked table ends marks columns rows n stride k ranks → Ranked table ends marks columns rows n stride (k + 1) ranks
   ranked-other none r =
       record {
         each = λ b j h column t l m o d e.
@@ -75,21 +75,21 @@ module _ {table ends : List ℕ} {marks : List Bool} {columns : ℕ} {rows : Lis
             (lt-suc-cases h k (omega (arith, o)));
       }
 
-  pub ranked-none : (r : Record) → recordAt table k ≡ r → NoBase r → Ranked table ends marks columns rows n k ranks
-      → Ranked table ends marks columns rows n (k + 1) ranks
+  pub ranked-none : (r : Record) → recordAt table k ≡ r → NoBase r → Ranked table ends marks columns rows n stride k ranks
+      → Ranked table ends marks columns rows n stride (k + 1) ranks
   ranked-none r e h = ranked-other (λ column t m q. subst NoBase (sym e ∙ q) h)
 
 -- ---- what the rank of a column asks for
 
-module _ {table : List ℕ} {numbers : List ℤ} {ends : List ℕ} {k columns : ℕ} {rows : List ℤ} {n size : ℕ}
-    (ready : RecordRankable table numbers ends k columns rows n size) where
+module _ {table : List ℕ} {numbers : List ℤ} {ends : List ℕ} {k columns : ℕ} {rows : List ℤ} {n stride size : ℕ}
+    (ready : RecordRankable table numbers ends k columns rows n stride size) where
   -- Record k is one of at most 128,
   pub few : k < 128
   few = omega (arith, ready .below, accepted-table table columns (ready .isAccepted) .fewRecords)
 
   -- and if it is a base record, its column and its values are known.
   pub column-ready : (column : ℕ) (b : BaseTerm) → recordAt table k ≡ Base column b
-      → ColumnRankable table numbers ends k column b columns rows n size
+      → ColumnRankable table numbers ends k column b columns rows n stride size
   column-ready column b e =
       record {
         isBase = e;
@@ -98,5 +98,6 @@ module _ {table : List ℕ} {numbers : List ℤ} {ends : List ℕ} {k columns : 
         values = ready .runs .each k (ready .below) (ap isTerm e) .values;
         prepared = ready .prepared;
         run = ready .run;
+        wide = ready .wide;
         room = ready .room;
       }

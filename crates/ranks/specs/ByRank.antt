@@ -19,7 +19,8 @@ use Rattle.laws.specs.Sound.{soundBase}
 use Rattle.laws.specs.Ranks.{lowest-rank, highest-rank, around-rank, between-rank, pos-rank, neg-rank}
 use Rattle.laws.specs.Ranks.{pos-neg-class, pos-pos-class}
 use Rattle.laws.specs.ValueCodes.{testsCode, valueCode}
-use Rattle.ranks.specs.Rank.{mirror, centred, rankOf}
+use Rattle.laws.specs.Runs.{valuesBetween}
+use Rattle.ranks.specs.Rank.{mirror, centred, rankOf, RankAt}
 
 -- Whether the term is EXPLICIT, the one that has no rank.
 unfoldable pub isExplicit : BaseTerm → Bool
@@ -112,3 +113,32 @@ lowest-same values x y = refl
 pub highest-same : (values : List Value) (x y : ℤ) → eqZ (rankOf Highest values x) (rankOf Highest values y) ≡ eqZ x y
 unfolding rankOf
 highest-same values x y = mirror-same x y
+
+-- Every term but EXPLICIT has a rank that its values give.
+pub rank-is : (table : List ℕ) (k e : ℕ) (t : BaseTerm) → isExplicit t ≡ false → (y r : ℤ) → RankAt table k e t y r
+    → r ≡ rankOf t (valuesBetween table k e) y
+unfolding isExplicit
+rank-is table k e Lowest h y r q = q
+rank-is table k e Highest h y r q = q
+rank-is table k e (Around wish) h y r q = q
+rank-is table k e (Between low up) h y r q = q
+rank-is table k e Pos h y r q = q
+rank-is table k e Neg h y r q = q
+rank-is table k e PosNeg h y r q = q
+rank-is table k e PosPos h y r q = q
+rank-is table k e Explicit h y r q = absurd (true≢false h)
+rank-is table k e Any h y r q = q
+
+-- No other term is EXPLICIT.
+pub explicit-is : (t : BaseTerm) → isExplicit t ≡ true → t ≡ Explicit
+unfolding isExplicit
+explicit-is Lowest h = absurd (true≢false (sym h))
+explicit-is Highest h = absurd (true≢false (sym h))
+explicit-is (Around wish) h = absurd (true≢false (sym h))
+explicit-is (Between low up) h = absurd (true≢false (sym h))
+explicit-is Pos h = absurd (true≢false (sym h))
+explicit-is Neg h = absurd (true≢false (sym h))
+explicit-is PosNeg h = absurd (true≢false (sym h))
+explicit-is PosPos h = absurd (true≢false (sym h))
+explicit-is Explicit h = refl
+explicit-is Any h = absurd (true≢false (sym h))

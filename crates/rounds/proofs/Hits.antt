@@ -27,7 +27,7 @@ use Rattle.elimination.specs.Elimination.{Apart}
 use Rattle.elimination.specs.Beats.{beats-one, beats-two}
 use Rattle.live.specs.Live.{lit, hit}
 use Rattle.live.specs.Alive.{Cells, Alive}
-use Rattle.blocks.specs.Blocks.{Ready, Coded}
+use Rattle.blocks.specs.Blocks.{Ready, AskedCoded}
 
 -- Of the lanes that pass, those with code 1 are beaten by row i and those with code 2 beat it.
 pub record Hits (beats : Rel ℕ) (n i lo : ℕ) (pass : ℕ → Bool) (live codes : List ℕ) (top : ℕ) : Type 0 where
@@ -97,8 +97,8 @@ module _ (t : Term) (s : sound t ≡ true) (w : within 8 t ≡ true) (columns : 
 -- ---- of a query that is ready
 
 module _ {table : List ℕ} {numbers : List ℤ} {ends : List ℕ} {reach : List (List Bool)} {marks : List Bool}
-    {term columns : ℕ} {rows : List ℤ} {n : ℕ} {ranks values : List ℤ}
-    (ready : Ready table numbers ends reach marks term columns rows n ranks values) where
+    {exits : List ℕ} {term columns : ℕ} {rows : List ℤ} {n stride : ℕ} {ranks values : List ℤ}
+    (ready : Ready table numbers ends reach marks exits term columns rows n stride ranks values) where
   -- Its cells by block.
   pub cells : Cells columns rows n values
   cells =
@@ -132,9 +132,9 @@ module _ {table : List ℕ} {numbers : List ℤ} {ends : List ℕ} {reach : List
         let s = taken-sound table columns term (ready .taken) in
         dark (termAt table term) (s .0) (s .1) columns rows group n i b pass live alive e
 
-    pub ready-hits : {codes : List ℕ} → Coded table marks columns rows n i b (term + 1) codes
+    pub ready-hits : {codes : List ℕ} → AskedCoded table term columns rows n i b codes
         → Hits (beatsIn (termAt table term) columns rows group) n i (b * 64) pass live codes (term * 64)
     ready-hits {codes} coded =
         let s = taken-sound table columns term (ready .taken) in
         hits (termAt table term) (s .0) (s .1) columns rows group n i b pass live alive codes (term * 64)
-        (λ j l h. coded .each term j (omega arith) (ready .marked .asked) (ready .taken .isRecord) l h)
+        (coded .each)

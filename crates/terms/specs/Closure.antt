@@ -18,6 +18,14 @@ endWord table j a = cond (eqb (a % 2) 0) (uWord table (j + 1 + a / 2)) (vWord ta
 unfoldable pub cellAt : List (List Bool) → ℕ → ℕ → Bool
 cellAt g a b = getD (getD g a []) b false
 
+-- End a has the value of end e or reaches it.
+unfoldable pub reachesAt : List ℕ → List (List Bool) → ℕ → ℕ → Bool
+reachesAt x g a e = eqb (getD x a 0) (getD x e 0) || cellAt g a e
+
+-- End b has the value of end f or is reached from it.
+unfoldable pub reachedAt : List ℕ → List (List Bool) → ℕ → ℕ → Bool
+reachedAt x g f b = eqb (getD x b 0) (getD x f 0) || cellAt g f b
+
 -- A cell of the closure for one edge more, from end e to end e + 1.
 unfoldable pub cellWith : List ℕ → List (List Bool) → ℕ → ℕ → ℕ → Bool
 cellWith x g e a b =

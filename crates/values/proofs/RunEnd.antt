@@ -100,5 +100,6 @@ module _ (table : List ℕ) where
             last = omega (arith, next .most, few-records ok);
             each = λ i l h. let v = each-value i l h in value-at i (v .0) (v .1);
           };
+          follows = next;
           all = all-values;
         }

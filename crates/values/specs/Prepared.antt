@@ -28,21 +28,22 @@ numberAt table i = cond (eqb (i % 2) 0) (uAt table (i / 2)) (vAt table (i / 2))
 pub record Numbers (table : List ℕ) (numbers : List ℤ) : Type 0 where
   pub each : (i : ℕ) → i < 256 → getD numbers i (pos 0) ≡ numberAt table i
 
--- The values of term k are the records from k + 1 to before e, and there are no others.
-pub record Run (table : List ℕ) (k e : ℕ) : Type 0 where
-  pub values : Values table k e
-  pub all : valuesOf table k (recordCount table) ≡ valuesBetween table k e
-
--- Entry k is where the values of term k end.
-pub record RunEnds (table ends : List ℕ) : Type 0 where
-  pub each : (k : ℕ) → k < recordCount table → isTerm (recordAt table k) ≡ true → Run table k (getD ends k 0)
-
 -- r is the first term record after record k, or n.
 pub record NextTerm (table : List ℕ) (k n r : ℕ) : Type 0 where
   pub after : k < r
   pub most : r ≤ n
   pub between : (i : ℕ) → k < i → i < r → isTerm (recordAt table i) ≡ false
   pub ends : r < n → isTerm (recordAt table r) ≡ true
+
+-- The values of term k are the records from k + 1 to before e, and there are no others.
+pub record Run (table : List ℕ) (k e : ℕ) : Type 0 where
+  pub values : Values table k e
+  pub follows : NextTerm table k (recordCount table) e
+  pub all : valuesOf table k (recordCount table) ≡ valuesBetween table k e
+
+-- Entry k is where the values of term k end.
+pub record RunEnds (table ends : List ℕ) : Type 0 where
+  pub each : (k : ℕ) → k < recordCount table → isTerm (recordAt table k) ≡ true → Run table k (getD ends k 0)
 
 -- r is a place of x among the ends of the edges from record k + 1 to before e, or 2e where it is in none.
 pub record EndPlace (table : List ℕ) (k e : ℕ) (x : ℤ) (r : ℕ) : Type 0 where

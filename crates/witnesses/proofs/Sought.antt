@@ -1,5 +1,5 @@
 -- The search for the lowest kept row that is better goes through the list of kept rows. Assumes nothing.
-use mathlib.Core.Path.{_≡_, sym, _∙_}
+use mathlib.Core.Path.{_≡_, refl, sym, _∙_}
 use mathlib.Core.Bool.{Bool, true, false, _&&_}
 use mathlib.Core.Logic.{⊎-elim}
 use mathlib.Core.List.{List}
@@ -81,6 +81,11 @@ module _ (beats : Rel ℕ) (n i : ℕ) where
         let m = a .0 in rw (b, t .none k (omega arith) b (omega arith)))
         (λ b. rw b)
         (on-or-off (kept n beats k)))
+
+    -- The entry at z is row `by`, which is better.
+    pub sought-by : z < keptCount n beats → (by : ℕ) → getD list z 0 ≡ by → beats by i ≡ true
+        → getD list z 0 ≡ lowestKept n beats i
+    sought-by h by e on = sought-hit h refl (rw e on)
 
   -- The list has no further entry.
   pub sought-end : (z : ℕ) → z ≡ keptCount n beats → Sought beats n i z → n ≡ lowestKept n beats i

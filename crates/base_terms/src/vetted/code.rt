@@ -53,7 +53,7 @@ pub fn base_code(
 }
 
 // The code of two values that are not the same.
-fn apart_code(first: bool, second: bool) -> u8
+pub fn apart_code(first: bool, second: bool) -> u8
     ensures { λ r. ⌜ r ≡ testsCode false first second ⌝ }
 {
     if first {

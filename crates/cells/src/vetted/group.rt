@@ -4,21 +4,25 @@ ghost use Prim.Native.Nat.{_≤_};
 ghost use lib.ListN.{length};
 ghost use Rattle.model.specs.Better.{equalIn};
 
+// Goes from set bit to set bit and ends at the first difference.
 pub fn in_group(group: u8, x: &[i32], y: &[i32]) -> bool
     requires { ⌜ (length (now x) ≡ length (now y)) × (length (now x) ≤ 8) ⌝ }
     ensures { λ r. ⌜ r ≡ equalIn group (now (x .entry)) (now (y .entry)) ⌝ }
 {
-    if group == 0 {
-        return true;
-    }
     let n = x.len();
     let mut left = group;
-    let mut differ = false;
-    let mut c = 0;
-    while c < n {
-        differ = differ | ((left % 2 == 1) & !(x[c] == y[c]));
-        left = left / 2;
-        c += 1;
+    let mut c = 0usize;
+    while left != 0 {
+        let unset = u8::trailing_zeros(left);
+        let at = c + (unset as usize);
+        if n <= at {
+            return true;
+        }
+        if x[at] != y[at] {
+            return false;
+        }
+        left = (left >> unset) / 2;
+        c = at + 1;
     }
-    !differ
+    true
 }

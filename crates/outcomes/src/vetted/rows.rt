@@ -70,7 +70,8 @@ fn record_code(
     }
 }
 
-fn compound_code(c: CompoundTerm, codes: &[u8; 128]) -> u8
+// The code of a compound from those of its parts.
+pub fn compound_code(c: CompoundTerm, codes: &[u8; 128]) -> u8
     requires { ⌜ PartsBelow 128 c ⌝ }
     ensures { λ r. ⌜ r ≡ compoundCode c (λ i. getD (now (codes .entry)) i 0) ⌝ }
 {

@@ -1,13 +1,15 @@
-// Which rows are kept: every row that is not gone has its round, in which it meets each later row that is not gone.
-use super::pair::group_outcome;
-use model::Outcome;
+// Which rows are kept: every row that is not gone has its round, in which it meets each later row that is not gone. A row that
+// is gone has in `by` a row that beats it. `codes` has room for a code of each record.
+use super::pair::group_code;
 ghost use mathlib.Core.Path.{_≡_};
+ghost use mathlib.Core.Bool.{true};
 ghost use Prim.Native.Nat.{_+_, _<_};
 ghost use lib.ListN.{length};
 ghost use Rattle.model.specs.Term.{termAt};
 ghost use Rattle.model.specs.Query.{beatsIn};
-ghost use Rattle.elimination.specs.Elimination.{Rounds, Turn, Met, Settled};
-ghost use Rattle.pairwise.specs.Pairs.{Comparable};
+ghost use Rattle.elimination.specs.Elimination.{Rounds, Turn, Met, Settled, Beaten};
+ghost use Rattle.pair_codes.specs.Pairs.{Comparable};
+ghost use Rattle.pairwise.specs.Pairs.{Buffers};
 
 // All rounds, with no row gone at first: a row is not gone exactly where it is kept.
 pub fn eliminate(
@@ -15,17 +17,28 @@ pub fn eliminate(
     numbers: &[i32; 256],
     ends: &[u8; 128],
     reach: &[[bool; 32]; 256],
+    marks: &[bool; 128],
+    exits: &[u8; 512],
     term: u8,
     group: u8,
     columns: usize,
     rows: &[i32],
     n: usize,
+    stride: usize,
+    ranks: &[i32],
     gone: &mut [u8],
+    by: &mut [u16],
+    codes: &mut [u8; 128],
 )
-    requires { ⌜ Comparable (now table) (now numbers) (now ends) (now reach) term columns (now rows) n
-        × (length (now gone) ≡ 1024) × Rounds (beatsIn (termAt (now table) term) columns (now rows) group) n 0 (now gone) ⌝ }
+    requires { ⌜ Comparable (now table) (now numbers) (now ends) (now reach) (now marks) (now exits) term columns (now rows) n stride
+        (now ranks)
+        × Buffers (length (now gone)) (length (now by)) (length (now codes))
+        × Rounds (beatsIn (termAt (now table) term) columns (now rows) group) n 0 (now gone)
+        × Beaten (beatsIn (termAt (now table) term) columns (now rows) group) n (now gone) (now by) ⌝ }
     ensures { λ _. ⌜ Settled (beatsIn (termAt (now (table .entry)) term) columns (now (rows .entry)) group)
-        n (now (gone .exit)) ⌝ }
+        n (now (gone .exit))
+        × Beaten (beatsIn (termAt (now (table .entry)) term) columns (now (rows .entry)) group)
+        n (now (gone .exit)) (now (by .exit)) × (length (now (codes .exit)) ≡ 128) ⌝ }
 {
     let mut i = 0;
     while i < n {
@@ -34,13 +47,19 @@ pub fn eliminate(
             numbers,
             ends,
             reach,
+            marks,
+            exits,
             term,
             group,
             columns,
             rows,
             n,
+            stride,
+            ranks,
             i,
             gone,
+            by,
+            codes,
         );
         i += 1;
     }
@@ -52,18 +71,29 @@ fn round_or_skip(
     numbers: &[i32; 256],
     ends: &[u8; 128],
     reach: &[[bool; 32]; 256],
+    marks: &[bool; 128],
+    exits: &[u8; 512],
     term: u8,
     group: u8,
     columns: usize,
     rows: &[i32],
     n: usize,
+    stride: usize,
+    ranks: &[i32],
     i: usize,
     gone: &mut [u8],
+    by: &mut [u16],
+    codes: &mut [u8; 128],
 )
-    requires { ⌜ Comparable (now table) (now numbers) (now ends) (now reach) term columns (now rows) n × (i < n)
-        × (length (now gone) ≡ 1024) × Rounds (beatsIn (termAt (now table) term) columns (now rows) group) n i (now gone) ⌝ }
+    requires { ⌜ Comparable (now table) (now numbers) (now ends) (now reach) (now marks) (now exits) term columns (now rows) n stride
+        (now ranks)
+        × (i < n) × Buffers (length (now gone)) (length (now by)) (length (now codes))
+        × Rounds (beatsIn (termAt (now table) term) columns (now rows) group) n i (now gone)
+        × Beaten (beatsIn (termAt (now table) term) columns (now rows) group) n (now gone) (now by) ⌝ }
     ensures { λ _. ⌜ Rounds (beatsIn (termAt (now (table .entry)) term) columns (now (rows .entry)) group)
-        n (i + 1) (now (gone .exit)) ⌝ }
+        n (i + 1) (now (gone .exit))
+        × Beaten (beatsIn (termAt (now (table .entry)) term) columns (now (rows .entry)) group)
+        n (now (gone .exit)) (now (by .exit)) × (length (now (codes .exit)) ≡ 128) ⌝ }
 {
     if gone[i] == 0 {
         round(
@@ -71,13 +101,19 @@ fn round_or_skip(
             numbers,
             ends,
             reach,
+            marks,
+            exits,
             term,
             group,
             columns,
             rows,
             n,
+            stride,
+            ranks,
             i,
             gone,
+            by,
+            codes,
         );
     }
 }
@@ -88,18 +124,29 @@ fn round(
     numbers: &[i32; 256],
     ends: &[u8; 128],
     reach: &[[bool; 32]; 256],
+    marks: &[bool; 128],
+    exits: &[u8; 512],
     term: u8,
     group: u8,
     columns: usize,
     rows: &[i32],
     n: usize,
+    stride: usize,
+    ranks: &[i32],
     i: usize,
     gone: &mut [u8],
+    by: &mut [u16],
+    codes: &mut [u8; 128],
 )
-    requires { ⌜ Comparable (now table) (now numbers) (now ends) (now reach) term columns (now rows) n × (i < n)
-        × (length (now gone) ≡ 1024) × Rounds (beatsIn (termAt (now table) term) columns (now rows) group) n i (now gone) ⌝ }
+    requires { ⌜ Comparable (now table) (now numbers) (now ends) (now reach) (now marks) (now exits) term columns (now rows) n stride
+        (now ranks)
+        × (i < n) × Buffers (length (now gone)) (length (now by)) (length (now codes))
+        × Rounds (beatsIn (termAt (now table) term) columns (now rows) group) n i (now gone)
+        × Beaten (beatsIn (termAt (now table) term) columns (now rows) group) n (now gone) (now by) ⌝ }
     ensures { λ _. ⌜ Rounds (beatsIn (termAt (now (table .entry)) term) columns (now (rows .entry)) group)
-        n (i + 1) (now (gone .exit)) ⌝ }
+        n (i + 1) (now (gone .exit))
+        × Beaten (beatsIn (termAt (now (table .entry)) term) columns (now (rows .entry)) group)
+        n (now (gone .exit)) (now (by .exit)) × (length (now (codes .exit)) ≡ 128) ⌝ }
 {
     let mut j = i + 1;
     while j < n {
@@ -108,15 +155,22 @@ fn round(
             numbers,
             ends,
             reach,
+            marks,
+            exits,
             term,
             group,
             columns,
             rows,
             n,
+            stride,
+            ranks,
             i,
             j,
             gone,
+            by,
+            codes,
         ) {
+            by[i] = j as u16;
             gone[i] = 1;
             return;
         }
@@ -124,50 +178,62 @@ fn round(
     }
 }
 
-// Row i meets row j. Says whether row j is better; where row i is, row j is gone.
+// Row i meets row j. Says whether row j is better; where row i is, row j is gone. It is stored without a branch, since which
+// of the two it is cannot be foreseen.
 fn meet(
     table: &[u8],
     numbers: &[i32; 256],
     ends: &[u8; 128],
     reach: &[[bool; 32]; 256],
+    marks: &[bool; 128],
+    exits: &[u8; 512],
     term: u8,
     group: u8,
     columns: usize,
     rows: &[i32],
     n: usize,
+    stride: usize,
+    ranks: &[i32],
     i: usize,
     j: usize,
     gone: &mut [u8],
+    by: &mut [u16],
+    codes: &mut [u8; 128],
 ) -> bool
-    requires { ⌜ Comparable (now table) (now numbers) (now ends) (now reach) term columns (now rows) n
-        × (i < n) × (j < n) × (length (now gone) ≡ 1024)
-        × Turn (beatsIn (termAt (now table) term) columns (now rows) group) n i j (now gone) ⌝ }
+    requires { ⌜ Comparable (now table) (now numbers) (now ends) (now reach) (now marks) (now exits) term columns (now rows) n stride
+        (now ranks)
+        × (i < n) × (j < n) × Buffers (length (now gone)) (length (now by)) (length (now codes))
+        × Turn (beatsIn (termAt (now table) term) columns (now rows) group) n i j (now gone)
+        × Beaten (beatsIn (termAt (now table) term) columns (now rows) group) n (now gone) (now by) ⌝ }
     ensures { λ r. ⌜ Met (beatsIn (termAt (now (table .entry)) term) columns (now (rows .entry)) group)
-        n i (j + 1) (now (gone .exit)) r ⌝ }
+        n i (j + 1) (now (gone .exit)) r
+        × Beaten (beatsIn (termAt (now (table .entry)) term) columns (now (rows .entry)) group)
+        n (now (gone .exit)) (now (by .exit))
+        × (r ≡ true → beatsIn (termAt (now (table .entry)) term) columns (now (rows .entry)) group j i ≡ true)
+        × (length (now (codes .exit)) ≡ 128) ⌝ }
 {
     if gone[j] == 0 {
-        match group_outcome(
+        let c = group_code(
             table,
             numbers,
             ends,
             reach,
+            marks,
+            exits,
             term,
             group,
             columns,
             rows,
             n,
+            stride,
+            ranks,
             i,
             j,
-        ) {
-            Outcome::Same => false,
-            Outcome::First => {
-                gone[j] = 1;
-                false
-            }
-            Outcome::Second => true,
-            Outcome::Unranked => false,
-        }
-    } else {
-        false
+            codes,
+        );
+        by[j] = i as u16;
+        gone[j] = (c == 1) as u8;
+        return c == 2;
     }
+    false
 }

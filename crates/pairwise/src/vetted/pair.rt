@@ -1,13 +1,15 @@
-// Two rows of the run compared, if they are in one group.
+// Two rows of the run compared, if they are in one group; a row is handed to the comparison as a part of the run. `codes` has
+// room for a code of each record.
 use cells::vetted::group::in_group;
-use model::Outcome;
-use outcomes::vetted::rows::compare_rows;
+use pair_codes::vetted::pair_code;
 ghost use mathlib.Core.Path.{_≡_};
 ghost use Prim.Native.Nat.{_<_};
+ghost use lib.ListN.{length};
 ghost use Rattle.model.specs.Term.{termAt};
 ghost use Rattle.model.specs.Query.{beatsIn};
-ghost use Rattle.outcomes.specs.Rows.{Ready};
-ghost use Rattle.pairwise.specs.Pairs.{Comparable, groupOutcome, outcomeIn};
+ghost use Rattle.laws.specs.Codes.{codeOf};
+ghost use Rattle.pair_codes.specs.Pairs.{Comparable, RowOf};
+ghost use Rattle.pairwise.specs.Pairs.{groupOutcome, outcomeIn};
 
 // Row j is in row i's set and better.
 pub fn beats(
@@ -15,84 +17,142 @@ pub fn beats(
     numbers: &[i32; 256],
     ends: &[u8; 128],
     reach: &[[bool; 32]; 256],
+    marks: &[bool; 128],
+    exits: &[u8; 512],
     term: u8,
     group: u8,
     columns: usize,
     rows: &[i32],
     n: usize,
+    stride: usize,
+    ranks: &[i32],
     j: usize,
     i: usize,
+    codes: &mut [u8; 128],
 ) -> bool
-    requires { ⌜ Comparable (now table) (now numbers) (now ends) (now reach) term columns (now rows) n × (j < n) × (i < n) ⌝ }
-    ensures { λ r. ⌜ r ≡ beatsIn (termAt (now (table .entry)) term) columns (now (rows .entry)) group j i ⌝ }
+    requires { ⌜ Comparable (now table) (now numbers) (now ends) (now reach) (now marks) (now exits) term columns (now rows) n stride
+        (now ranks)
+        × (j < n) × (i < n) × (length (now codes) ≡ 128) ⌝ }
+    ensures { λ r. ⌜ (r ≡ beatsIn (termAt (now (table .entry)) term) columns (now (rows .entry)) group j i)
+        × (length (now (codes .exit)) ≡ 128) ⌝ }
 {
-    match group_outcome(
+    group_code(
         table,
         numbers,
         ends,
         reach,
+        marks,
+        exits,
         term,
         group,
         columns,
         rows,
         n,
+        stride,
+        ranks,
         j,
         i,
-    ) {
-        Outcome::Same => false,
-        Outcome::First => true,
-        Outcome::Second => false,
-        Outcome::Unranked => false,
-    }
+        codes,
+    )
+        == 1
 }
 
-// The outcome of row i against row j; unranked where they are in different groups.
-pub fn group_outcome(
+// The code of row i against row j; unranked where they are in different groups.
+pub fn group_code(
     table: &[u8],
     numbers: &[i32; 256],
     ends: &[u8; 128],
     reach: &[[bool; 32]; 256],
+    marks: &[bool; 128],
+    exits: &[u8; 512],
     term: u8,
     group: u8,
     columns: usize,
     rows: &[i32],
     n: usize,
+    stride: usize,
+    ranks: &[i32],
     i: usize,
     j: usize,
-) -> Outcome
-    requires { ⌜ Comparable (now table) (now numbers) (now ends) (now reach) term columns (now rows) n × (i < n) × (j < n) ⌝ }
-    ensures { λ r. ⌜ r ≡ groupOutcome (termAt (now (table .entry)) term) columns (now (rows .entry)) group i j ⌝ }
+    codes: &mut [u8; 128],
+) -> u8
+    requires { ⌜ Comparable (now table) (now numbers) (now ends) (now reach) (now marks) (now exits) term columns (now rows) n stride
+        (now ranks)
+        × (i < n) × (j < n) × (length (now codes) ≡ 128) ⌝ }
+    ensures { λ r. ⌜ (r ≡ codeOf (groupOutcome (termAt (now (table .entry)) term) columns (now (rows .entry)) group i j))
+        × (length (now (codes .exit)) ≡ 128) ⌝ }
 {
     let s = i * columns;
     let t = j * columns;
-    outcome_in(
+    code_in(
         table,
         numbers,
         ends,
         reach,
+        marks,
+        exits,
         term,
         group,
+        columns,
+        rows,
+        n,
+        stride,
+        ranks,
+        i,
+        j,
         &rows[s..s + columns],
         &rows[t..t + columns],
+        codes,
     )
 }
 
 // The same of two rows.
-fn outcome_in(
+fn code_in(
     table: &[u8],
     numbers: &[i32; 256],
     ends: &[u8; 128],
     reach: &[[bool; 32]; 256],
+    marks: &[bool; 128],
+    exits: &[u8; 512],
     term: u8,
     group: u8,
+    columns: usize,
+    rows: &[i32],
+    n: usize,
+    stride: usize,
+    ranks: &[i32],
+    i: usize,
+    j: usize,
     first: &[i32],
     second: &[i32],
-) -> Outcome
-    requires { ⌜ Ready (now table) (now numbers) (now ends) (now reach) term (now first) (now second) ⌝ }
-    ensures { λ r. ⌜ r ≡ outcomeIn (termAt (now (table .entry)) term) group (now (first .entry)) (now (second .entry)) ⌝ }
+    codes: &mut [u8; 128],
+) -> u8
+    requires { ⌜ Comparable (now table) (now numbers) (now ends) (now reach) (now marks) (now exits) term columns (now rows) n stride
+        (now ranks)
+        × RowOf columns (now rows) n i (now first) × RowOf columns (now rows) n j (now second) × (length (now codes) ≡ 128) ⌝ }
+    ensures { λ r. ⌜ (r ≡ codeOf (outcomeIn (termAt (now (table .entry)) term) group (now (first .entry)) (now (second .entry))))
+        × (length (now (codes .exit)) ≡ 128) ⌝ }
 {
     if in_group(group, first, second) {
-        return compare_rows(table, numbers, ends, reach, term, first, second);
+        return pair_code(
+            table,
+            numbers,
+            ends,
+            reach,
+            marks,
+            exits,
+            term,
+            columns,
+            rows,
+            n,
+            stride,
+            ranks,
+            i,
+            j,
+            first,
+            second,
+            codes,
+        );
     }
-    Outcome::Unranked
+    3
 }

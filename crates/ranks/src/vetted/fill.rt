@@ -1,4 +1,4 @@
-// The ranks of all rows under the marked base records, block by block.
+// The ranks of all rows under the marked base records, block by block: a block takes `stride` entries, 64 for each record.
 use crate::vetted::rank::rank;
 use model::BaseTerm;
 use model::Record;
@@ -17,15 +17,27 @@ pub fn fill_ranks(
     columns: usize,
     rows: &[i32],
     n: usize,
+    stride: usize,
     ranks: &mut [i32],
 )
-    requires { ⌜ Rankable (now table) (now numbers) (now ends) (now marks) term columns (now rows) n (length (now ranks)) ⌝ }
+    requires { ⌜ Rankable (now table) (now numbers) (now ends) (now marks) term columns (now rows) n stride (length (now ranks)) ⌝ }
     ensures { λ _. ⌜ Ranked (now (table .entry)) (now (ends .entry)) (now (marks .entry)) columns
-        (now (rows .entry)) n (term + 1) (now (ranks .exit)) ⌝ }
+        (now (rows .entry)) n stride (term + 1) (now (ranks .exit)) ⌝ }
 {
     let mut k = 0u8;
     while k <= term {
-        fill_record(table, numbers, ends, marks, k, columns, rows, n, ranks);
+        fill_record(
+            table,
+            numbers,
+            ends,
+            marks,
+            k,
+            columns,
+            rows,
+            n,
+            stride,
+            ranks,
+        );
         k += 1;
     }
 }
@@ -40,19 +52,32 @@ fn fill_record(
     columns: usize,
     rows: &[i32],
     n: usize,
+    stride: usize,
     ranks: &mut [i32],
 )
-    requires { ⌜ RecordRankable (now table) (now numbers) (now ends) k columns (now rows) n (length (now ranks))
-        × Ranked (now table) (now ends) (now marks) columns (now rows) n k (now ranks) ⌝ }
+    requires { ⌜ RecordRankable (now table) (now numbers) (now ends) k columns (now rows) n stride (length (now ranks))
+        × Ranked (now table) (now ends) (now marks) columns (now rows) n stride k (now ranks) ⌝ }
     ensures { λ _. ⌜ Ranked (now (table .entry)) (now (ends .entry)) (now (marks .entry)) columns
-        (now (rows .entry)) n (k + 1) (now (ranks .exit)) ⌝ }
+        (now (rows .entry)) n stride (k + 1) (now (ranks .exit)) ⌝ }
 {
     let at = k as usize;
     if marks[at] {
         match decoded(table, numbers, k) {
             Record::Value(_) => {}
             Record::Base(column, b) => {
-                fill_column(table, numbers, ends, k, column, b, columns, rows, n, ranks);
+                fill_column(
+                    table,
+                    numbers,
+                    ends,
+                    k,
+                    column,
+                    b,
+                    columns,
+                    rows,
+                    n,
+                    stride,
+                    ranks,
+                );
             }
             Record::Compound(_) => {}
             Record::Unknown => {}
@@ -71,10 +96,11 @@ fn fill_column(
     columns: usize,
     rows: &[i32],
     n: usize,
+    stride: usize,
     ranks: &mut [i32],
 )
-    requires { ⌜ ColumnRankable (now table) (now numbers) (now ends) k column b columns (now rows) n (length (now ranks)) ⌝ }
-    ensures { λ _. ⌜ Adds (now (table .entry)) (now (ends .entry)) columns (now (rows .entry)) n k
+    requires { ⌜ ColumnRankable (now table) (now numbers) (now ends) k column b columns (now rows) n stride (length (now ranks)) ⌝ }
+    ensures { λ _. ⌜ Adds (now (table .entry)) (now (ends .entry)) columns (now (rows .entry)) n stride k
         (now (ranks .entry)) (now (ranks .exit)) ⌝ }
 {
     let at = k as usize;
@@ -82,14 +108,8 @@ fn fill_column(
     let e = ends[at];
     let mut i = 0;
     while i < n {
-        ranks[i / 64 * 8192 + at * 64 + i % 64] = rank(
-            table,
-            numbers,
-            k,
-            e,
-            b,
-            rows[i * columns + c],
-        );
+        let place = i / 64 * stride + at * 64 + i % 64;
+        ranks[place] = rank(table, numbers, k, e, b, rows[i * columns + c]);
         i += 1;
     }
 }

@@ -20,17 +20,19 @@ pub fn eliminate(
     ends: &[u8; 128],
     reach: &[[bool; 32]; 256],
     marks: &[bool; 128],
+    exits: &[u8; 512],
     term: u8,
     group: u8,
     columns: usize,
     rows: &[i32],
     n: usize,
+    stride: usize,
     ranks: &[i32],
     values: &[i32],
     gone: &mut [u8],
     codes: &mut [u8],
 )
-    requires { ⌜ Ready (now table) (now numbers) (now ends) (now reach) (now marks) term columns (now rows) n (now ranks) (now values)
+    requires { ⌜ Ready (now table) (now numbers) (now ends) (now reach) (now marks) (now exits) term columns (now rows) n stride (now ranks) (now values)
         × (length (now gone) ≡ 1024) × (8192 ≤ length (now codes)) × Above n (now gone)
         × Rounds (beatsIn (termAt (now table) term) columns (now rows) group) n 0 (now gone) ⌝ }
     ensures { λ _. ⌜ Settled (beatsIn (termAt (now (table .entry)) term) columns (now (rows .entry)) group) n (now (gone .exit)) ⌝ }
@@ -43,11 +45,13 @@ pub fn eliminate(
             ends,
             reach,
             marks,
+            exits,
             term,
             group,
             columns,
             rows,
             n,
+            stride,
             ranks,
             values,
             i,
@@ -65,18 +69,20 @@ fn round_or_skip(
     ends: &[u8; 128],
     reach: &[[bool; 32]; 256],
     marks: &[bool; 128],
+    exits: &[u8; 512],
     term: u8,
     group: u8,
     columns: usize,
     rows: &[i32],
     n: usize,
+    stride: usize,
     ranks: &[i32],
     values: &[i32],
     i: usize,
     gone: &mut [u8],
     codes: &mut [u8],
 )
-    requires { ⌜ Ready (now table) (now numbers) (now ends) (now reach) (now marks) term columns (now rows) n (now ranks) (now values)
+    requires { ⌜ Ready (now table) (now numbers) (now ends) (now reach) (now marks) (now exits) term columns (now rows) n stride (now ranks) (now values)
         × (i < n) × (length (now gone) ≡ 1024) × (8192 ≤ length (now codes)) × Above n (now gone)
         × Rounds (beatsIn (termAt (now table) term) columns (now rows) group) n i (now gone) ⌝ }
     ensures { λ _. ⌜ Rounds (beatsIn (termAt (now (table .entry)) term) columns (now (rows .entry)) group) n (i + 1) (now (gone .exit))
@@ -89,11 +95,13 @@ fn round_or_skip(
             ends,
             reach,
             marks,
+            exits,
             term,
             group,
             columns,
             rows,
             n,
+            stride,
             ranks,
             values,
             i,
@@ -110,18 +118,20 @@ fn round(
     ends: &[u8; 128],
     reach: &[[bool; 32]; 256],
     marks: &[bool; 128],
+    exits: &[u8; 512],
     term: u8,
     group: u8,
     columns: usize,
     rows: &[i32],
     n: usize,
+    stride: usize,
     ranks: &[i32],
     values: &[i32],
     i: usize,
     gone: &mut [u8],
     codes: &mut [u8],
 )
-    requires { ⌜ Ready (now table) (now numbers) (now ends) (now reach) (now marks) term columns (now rows) n (now ranks) (now values)
+    requires { ⌜ Ready (now table) (now numbers) (now ends) (now reach) (now marks) (now exits) term columns (now rows) n stride (now ranks) (now values)
         × (i < n) × (length (now gone) ≡ 1024) × (8192 ≤ length (now codes)) × Above n (now gone)
         × Rounds (beatsIn (termAt (now table) term) columns (now rows) group) n i (now gone) ⌝ }
     ensures { λ _. ⌜ Rounds (beatsIn (termAt (now (table .entry)) term) columns (now (rows .entry)) group) n (i + 1) (now (gone .exit))
@@ -135,11 +145,13 @@ fn round(
             ends,
             reach,
             marks,
+            exits,
             term,
             group,
             columns,
             rows,
             n,
+            stride,
             ranks,
             values,
             i,
@@ -162,11 +174,13 @@ fn meet_block(
     ends: &[u8; 128],
     reach: &[[bool; 32]; 256],
     marks: &[bool; 128],
+    exits: &[u8; 512],
     term: u8,
     group: u8,
     columns: usize,
     rows: &[i32],
     n: usize,
+    stride: usize,
     ranks: &[i32],
     values: &[i32],
     i: usize,
@@ -174,7 +188,7 @@ fn meet_block(
     gone: &mut [u8],
     codes: &mut [u8],
 ) -> bool
-    requires { ⌜ Ready (now table) (now numbers) (now ends) (now reach) (now marks) term columns (now rows) n (now ranks) (now values)
+    requires { ⌜ Ready (now table) (now numbers) (now ends) (now reach) (now marks) (now exits) term columns (now rows) n stride (now ranks) (now values)
         × (i < n) × (b * 64 < n) × (length (now gone) ≡ 1024) × (8192 ≤ length (now codes)) × Above n (now gone)
         × Turn (beatsIn (termAt (now table) term) columns (now rows) group) n i (b * 64) (now gone) ⌝ }
     ensures { λ r. ⌜ Met (beatsIn (termAt (now (table .entry)) term) columns (now (rows .entry)) group) n i (b * 64 + 64) (now (gone .exit)) r
@@ -189,10 +203,12 @@ fn meet_block(
             ends,
             reach,
             marks,
+            exits,
             term,
             columns,
             rows,
             n,
+            stride,
             ranks,
             values,
             i,

@@ -1,19 +1,28 @@
 -- `blocks::vetted::record_codes` meets its contract. Assumes nothing.
 use mathlib.Core.Path.{sym, _∙_, ap}
-use Prim.Native.Nat.{_+_, _*_, _/_, _%_}
+use Prim.Native.Nat.{_+_, _*_, _/_, _%_, _<_, _≤_}
 use native.Mathlib.Omega.{arith}
 use lib.IntN.{pos}
-use lib.ListN.{getD}
+use lib.ListN.{getD, length}
 use mir.Syntax.{w32}
 use mir.Facts.{toZ-ofZ}
 use denote.Ref.{now}
 use borrow.Author.Needs.{needs, sfits-of}
 use Rattle.model.specs.Record.{isTerm}
-use Rattle.blocks.proofs.Coded.{coded-other, record-below, rank-room, value-room}
+use Rattle.blocks.proofs.Coded.{coded-other, record-below, rank-place, ranks-end, value-room}
 use Rattle.blocks.proofs.OfBase.{column-below, base-asked, base-room, base-coded}
 use Rattle.blocks.proofs.OfCompound.{parts-below, compound-coded}
 use Rattle.blocks.proofs.vetted.record_codes.Statement.{statement}
 use Rattle.blocks.proofs.vetted.record_codes.Tie as tie
+
+-- The place of row i's rank,
+row-rank : (s : tie.Start)
+    → s .args .i / 64 * s .args .stride + s .args .k * 64 + s .args .i % 64 < length (now (s .args .ranks))
+row-rank s = rank-place (s .pre .0) (s .pre .1)
+
+-- and the end of block b's ranks.
+block-ranks : (s : tie.Start) → s .args .b * s .args .stride + s .args .k * 64 + 64 ≤ length (now (s .args .ranks))
+block-ranks s = ranks-end (s .pre .0) (s .pre .1)
 
 decoded-requires : tie.Need-decoded-requires
 decoded-requires c κs =
@@ -30,24 +39,22 @@ cast-c : tie.Need-cast-c
 cast-c c = search needs
 
 mul-x : tie.Need-mul-x
-mul-x c = search needs
+mul-x c = omega (arith, row-rank (c .before .before .before .before .before .before))
 
 mul-x-2 : tie.Need-mul-x-2
-mul-x-2 c = search needs
+mul-x-2 c = omega (arith, row-rank (c .before .before .before .before .before .before))
 
 add-x : tie.Need-add-x
-add-x c = search needs
+add-x c = omega (arith, row-rank (c .before .before .before .before .before .before))
 
 add-x-2 : tie.Need-add-x-2
-add-x-2 c = search needs
+add-x-2 c = omega (arith, row-rank (c .before .before .before .before .before .before))
 
 mul-x-3 : tie.Need-mul-x-3
-mul-x-3 c = search needs
+mul-x-3 c = omega (arith, row-rank (c .before .before .before .before .before .before))
 
 shared-slice-copy-out-x : tie.Need-shared-slice-copy-out-x
-shared-slice-copy-out-x c =
-    let s = c .before .before .before .before .before .before in
-    omega (arith, rank-room (s .pre .0) (s .pre .1), record-below (s .pre .0) (s .pre .1))
+shared-slice-copy-out-x c = row-rank (c .before .before .before .before .before .before)
 
 mul-v : tie.Need-mul-v
 mul-v c = search needs
@@ -78,13 +85,13 @@ element-copy-out-e c =
     record-below (s .pre .0) (s .pre .1)
 
 mul-base-codes : tie.Need-mul-base-codes
-mul-base-codes c = search needs
+mul-base-codes c = omega (arith, block-ranks (c .before .before .before .before .before .before .before .before .before))
 
 mul-base-codes-2 : tie.Need-mul-base-codes-2
-mul-base-codes-2 c = search needs
+mul-base-codes-2 c = omega (arith, block-ranks (c .before .before .before .before .before .before .before .before .before))
 
 add-base-codes : tie.Need-add-base-codes
-add-base-codes c = search needs
+add-base-codes c = omega (arith, block-ranks (c .before .before .before .before .before .before .before .before .before))
 
 mul-base-codes-3 : tie.Need-mul-base-codes-3
 mul-base-codes-3 c = search needs
@@ -103,7 +110,7 @@ base-codes-requires c κs =
     let a = s .args in
     let column = k .column .given .0 .0 in
     let is = sym (d .decoded .ensures) ∙ k .column .given .1 in
-    let rank = getD (now (a .ranks)) (a .i / 64 * 8192 + a .k * 64 + a .i % 64) (pos 0) in
+    let rank = getD (now (a .ranks)) (a .i / 64 * a .stride + a .k * 64 + a .i % 64) (pos 0) in
     let x = toZ-ofZ {w = w32} {z = rank} (sfits-of (c .before .before .before .x .given)) in
     let value = getD (now (a .values)) (a .i / 64 * 512 + column * 64 + a .i % 64) (pos 0) in
     let v = toZ-ofZ {w = w32} {z = value} (sfits-of (c .before .before .v .given)) in

@@ -23,35 +23,42 @@ beneath-requires c κs =
     let t = a .before .before .before .pre .0 .taken in
     (term-below t, a .numbers .ensures, parts-low _ _ _ (t .isAccepted) (t .below))
 
+exits-requires : tie.Need-exits-requires
+exits-requires c κs =
+    let a = c .before .before .before .before .before .before in
+    let t = a .before .before .before .pre .0 .taken in
+    record { columns = _; taken = t; prepared = a .numbers .ensures }
+
 fill-values-requires : tie.Need-fill-values-requires
 fill-values-requires c κs =
-    let s = c .before .before .before .before .before .before .before .before .before in
+    let s = c .before .before .before .before .before .before .before .before .before .before .before in
     let w = s .pre .0 in
-    (w .run, few-columns (w .taken), w .few, s .pre .2)
+    (w .run, few-columns (w .taken), w .few, s .pre .3)
 
 fill-ranks-requires : tie.Need-fill-ranks-requires
 fill-ranks-requires c κs =
-    let m = c .before .before .before .before .before .before .before in
+    let m = c .before .before .before .before .before .before .before .before .before in
     let e = m .before .before .before .before in
     let a = e .before in
     let s = a .before .before .before in
-    rankable (s .pre .0) (a .numbers .ensures) (e .run-ends .ensures) (m .beneath .ensures) (s .pre .1)
+    rankable (s .pre .0) (s .pre .1) (a .numbers .ensures) (e .run-ends .ensures) (m .beneath .ensures) (s .pre .2)
 
 by-blocks-requires : tie.Need-by-blocks-requires
 by-blocks-requires c κs =
-    let q = c .before .before .before .before .before .before .before in
+    let q = c .before .before .before .before .before .before .before .before in
     let r = q .before in
     let w = r .before .before .before .before .before in
     let v = w .before in
-    let m = v .before .before in
+    let x = v .before .before in
+    let m = x .before .before in
     let g = m .before .before in
     let e = g .before .before in
     let a = e .before in
     let s = a .before .before .before in (
-      ready (s .pre .0) (a .numbers .ensures) (e .run-ends .ensures) (g .closures .ensures) (m .beneath .ensures)
-          (r .fill-ranks .ensures) (same-room (q .ranks .given) (s .pre .1))
-          (v .fill-values .ensures) (same-room (w .values .given) (s .pre .2)),
-      s .pre .3,
+      ready (s .pre .0) (s .pre .1) (a .numbers .ensures) (e .run-ends .ensures) (g .closures .ensures) (m .beneath .ensures)
+          (x .exits .ensures) (r .fill-ranks .ensures) (same-room (q .ranks .given) (s .pre .2))
+          (v .fill-values .ensures) (same-room (w .cells .given) (s .pre .3)),
+      s .pre .4,
     )
 
 same-length : tie.Need-same-length
@@ -74,6 +81,7 @@ prepared-spec =
     run-ends-requires
     closures-requires
     beneath-requires
+    exits-requires
     fill-values-requires
     fill-ranks-requires
     by-blocks-requires

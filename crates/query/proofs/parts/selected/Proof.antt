@@ -3,6 +3,7 @@ use borrow.Author.Needs.{needs}
 use Rattle.model.specs.Query.{rowCount}
 use Rattle.asked.proofs.Verdicts.{some-column}
 use Rattle.query.proofs.Taken.{asked-rows}
+use Rattle.query.proofs.Blocks.{stride-for}
 use Rattle.query.proofs.parts.selected.Statement.{statement}
 use Rattle.query.proofs.parts.selected.Tie as tie
 
@@ -11,11 +12,17 @@ div-n c =
     let s = c .before .before in
     some-column (s .pre .ofTerm)
 
+mul-stride : tie.Need-mul-stride
+mul-stride c = search needs
+
+add-stride : tie.Need-add-stride
+add-stride c = search needs
+
 in-one-block-requires : tie.Need-in-one-block-requires
 unfolding rowCount
 in-one-block-requires c κs =
     let s = c .before .before .before .before in
-    (asked-rows (s .pre), c .before .if1 .taken, s .pre .long)
+    (asked-rows (s .pre), stride-for (s .pre .ofTerm), c .before .if1 .taken, s .pre .long)
 
 same-length : tie.Need-same-length
 same-length c = search needs
@@ -28,7 +35,7 @@ in-four-blocks-requires : tie.Need-in-four-blocks-requires
 unfolding rowCount
 in-four-blocks-requires c κs =
     let s = c .before .before .before .before .before in
-    (asked-rows (s .pre), c .before .if2 .taken, s .pre .long)
+    (asked-rows (s .pre), stride-for (s .pre .ofTerm), c .before .if2 .taken, s .pre .long)
 
 same-length-2 : tie.Need-same-length-2
 same-length-2 c = search needs
@@ -41,7 +48,7 @@ in-blocks-requires : tie.Need-in-blocks-requires
 unfolding rowCount
 in-blocks-requires c κs =
     let s = c .before .before .before .before .before in
-    (asked-rows (s .pre), s .pre .long)
+    (asked-rows (s .pre), stride-for (s .pre .ofTerm), s .pre .long)
 
 same-length-3 : tie.Need-same-length-3
 same-length-3 c = search needs
@@ -55,6 +62,8 @@ selected-spec =
     tie.close
     (tie.spec
     div-n
+    mul-stride
+    add-stride
     in-one-block-requires
     same-length
     returns

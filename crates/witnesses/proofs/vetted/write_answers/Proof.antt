@@ -2,6 +2,7 @@
 use mathlib.Core.Path.{_≡_, refl}
 use Prim.Native.Nat.{_-_, _≤_}
 use native.Mathlib.Nat.{le-antisymm}
+use native.Mathlib.Omega.{arith}
 use lib.ListN.{length, length-set}
 use borrow.Author.Needs.{needs}
 use Rattle.model.specs.Search.{fill}
@@ -12,19 +13,23 @@ use Rattle.witnesses.proofs.vetted.write_answers.Statement.{statement}
 use Rattle.witnesses.proofs.vetted.write_answers.Tie as tie
 
 abbrev Inv-loop : tie.InvT-loop
-Inv-loop table numbers ends reach term group columns rows n gone kept m answers₀ row₀ answers row =
-    (row ≤ n) × (length answers ≡ length answers₀)
+Inv-loop table numbers ends reach marks exits term group columns rows n stride ranks gone by kept m codes₀ answers₀ row₀ codes answers row =
+    (row ≤ n) × (length codes ≡ 128) × (length answers ≡ length answers₀)
     × (answers ≡ fill row (answer n (beatsIn (termAt table term) columns rows group)) answers₀)
 
 abbrev μ-loop : tie.MeasureT-loop
-μ-loop table numbers ends reach term group columns rows n gone kept m answers₀ row₀ answers row = n - row
+μ-loop table numbers ends reach marks exits term group columns rows n stride ranks gone by kept m codes₀ answers₀ row₀ codes answers row =
+    n - row
 
 loop-holds : tie.Need-loop-holds Inv-loop μ-loop
 unfolding fill
-loop-holds c = (search needs, refl, refl)
+loop-holds c = (search needs, c .before .before .before .before .before .pre .3, refl, refl)
 
 entry-requires : tie.Need-entry-requires Inv-loop μ-loop
-entry-requires c κs = search needs
+entry-requires c κs =
+    let s = c .before .before in
+    let p = s .before .before .before .before .before .before .pre in
+    (p .0, p .1, p .2, s .loop .inv .1, p .4, p .5, omega arith)
 
 mul-answers : tie.Need-mul-answers Inv-loop μ-loop
 mul-answers c = search needs
@@ -40,15 +45,17 @@ loop-less c = search needs
 
 loop-again : tie.Need-loop-again Inv-loop μ-loop
 loop-again c =
-    let v = c .before .before .loop .inv in
-    (search needs, simp length-set (v .1), rw (v .2, c .entry .ensures) (fill-step _ _ _))
+    let v = c .before .before .before .loop .inv in
+    let r = c .entry .ensures in
+    (search needs, r .1, simp length-set (v .2), rw (v .3, r .0) (fill-step _ _ _))
 
 same-length : tie.Need-same-length Inv-loop μ-loop
 same-length c = search needs
 
 returns : tie.Need-returns Inv-loop μ-loop
 returns c =
-    let q = le-antisymm (c .before .loop .inv .0) (c .loop-test .left) in rw q at (c .before .loop .inv .2)
+    let v = c .before .loop .inv in
+    let q = le-antisymm (v .0) (c .loop-test .left) in rw q at (v .3)
 
 pub write-answers-spec : {M : Type 1} → statement M
 write-answers-spec =

@@ -1,7 +1,10 @@
 -- `pairwise::vetted::meetings::meet` meets its contract. Assumes nothing.
+use mathlib.Core.Path.{_∙_}
+use mathlib.Core.Bool.{false≢true}
 use native.Mathlib.Omega.{arith}
 use borrow.Author.Needs.{needs}
-use Rattle.elimination.specs.Meetings.{meet-beaten, meet-gone, meet-apart, meet-wins}
+use Rattle.elimination.specs.Meetings.{meet-gone, meet-code}
+use Rattle.elimination.specs.Beaten.{beaten-code}
 use Rattle.pairwise.proofs.Grouped.{group-first, group-second}
 use Rattle.pairwise.proofs.vetted.meetings.meet.Statement.{statement}
 use Rattle.pairwise.proofs.vetted.meetings.meet.Tie as tie
@@ -9,75 +12,59 @@ use Rattle.pairwise.proofs.vetted.meetings.meet.Tie as tie
 slice-read-if1 : tie.Need-slice-read-if1
 slice-read-if1 c = search needs
 
-group-outcome-requires : tie.Need-group-outcome-requires
-group-outcome-requires c κs = search needs
+group-code-requires : tie.Need-group-code-requires
+group-code-requires c κs = search needs
 
-enum-told : tie.Need-enum-told
-enum-told c = search needs
+cast-by : tie.Need-cast-by
+cast-by c = search needs
 
-enum-told-2 : tie.Need-enum-told-2
-enum-told-2 c = search needs
+mul-by : tie.Need-mul-by
+mul-by c = search needs
+
+slice-write-by : tie.Need-slice-write-by
+slice-write-by c = search needs
+
+cast-gone : tie.Need-cast-gone
+cast-gone c = search needs
 
 slice-write-gone : tie.Need-slice-write-gone
 slice-write-gone c = search needs
 
-enum-told-3 : tie.Need-enum-told-3
-enum-told-3 c = search needs
-
-enum-told-4 : tie.Need-enum-told-4
-enum-told-4 c = search needs
-
-returns : tie.Need-returns
-returns c =
-    let s = c .before .before in
-    let p = s .before .before .before .before .before .pre in
-    let r = s .group-outcome .ensures in
-    let e = c .enum-told .given .1 in
-    meet-apart _ _ _ _ _ (p .4) (p .1) (group-first (p .0) _ _ _ r e) (group-second (p .0) _ _ _ r e)
-
 same-length : tie.Need-same-length
 same-length c = search needs
 
+same-length-2 : tie.Need-same-length-2
+same-length-2 c = search needs
+
+returns : tie.Need-returns
+returns c =
+    let p = c .before .before .before .before .before .before .before .pre in
+    let r = c .group-code .ensures in
+    let e = group-first (p .0 .taken) _ _ _ _ (r .0) in
+    let f = group-second (p .0 .taken) _ _ _ _ (r .0) in (
+      meet-code _ _ _ _ _ (p .4) (c .group-code .result) (p .1) (p .2) (omega arith) (c .before .before .if1 .taken) e f,
+      beaten-code _ _ _ _ _ _ (c .group-code .result) (p .1) (omega arith) (omega arith) e (p .5),
+      λ on. f ∙ on,
+      r .1,
+    )
+
 returns-2 : tie.Need-returns-2
 returns-2 c =
-    let s = c .before .before in
-    let p = s .before .before .before .before .before .pre in
-    meet-wins _ _ _ _ _ (p .4) (p .1) (omega arith)
-    (group-first (p .0) _ _ _ (s .group-outcome .ensures) (c .enum-told2 .given .1))
-
-returns-3 : tie.Need-returns-3
-returns-3 c =
-    let s = c .before .before in
-    let p = s .before .before .before .before .before .pre in
-    meet-beaten _ _ _ _ _ (p .4) (p .2) (group-second (p .0) _ _ _ (s .group-outcome .ensures) (c .enum-told3 .given .1))
-
-returns-4 : tie.Need-returns-4
-returns-4 c =
-    let s = c .before .before in
-    let p = s .before .before .before .before .before .pre in
-    let r = s .group-outcome .ensures in
-    let e = c .enum-told4 .given .1 in
-    meet-apart _ _ _ _ _ (p .4) (p .1) (group-first (p .0) _ _ _ r e) (group-second (p .0) _ _ _ r e)
-
-returns-5 : tie.Need-returns-5
-returns-5 c =
-    let p = c .before .before .before .before .pre in
-    meet-gone _ _ _ _ _ (p .4) (p .1) (c .if1 .left)
+    let p = c .before .before .before .before .before .pre in
+    (meet-gone _ _ _ _ _ (p .4) (p .1) (c .if1 .left), p .5, λ on. absurd (false≢true on), p .3 .ofCodes)
 
 pub meet-spec : {M : Type 1} → statement M
 meet-spec =
     tie.close
     (tie.spec
     slice-read-if1
-    group-outcome-requires
-    enum-told
-    enum-told-2
+    group-code-requires
+    cast-by
+    mul-by
+    slice-write-by
+    cast-gone
     slice-write-gone
-    enum-told-3
-    enum-told-4
-    returns
     same-length
-    returns-2
-    returns-3
-    returns-4
-    returns-5)
+    same-length-2
+    returns
+    returns-2)

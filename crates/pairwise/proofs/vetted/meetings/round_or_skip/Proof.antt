@@ -13,11 +13,17 @@ round-requires c κs = search needs
 same-length : tie.Need-same-length
 same-length c = search needs
 
+same-length-2 : tie.Need-same-length-2
+same-length-2 c = search needs
+
 returns : tie.Need-returns
 returns c = search needs
 
 returns-2 : tie.Need-returns-2
-returns-2 c = turn-gone _ _ _ _ (c .if1 .left) (c .before .before .before .before .pre .3)
+returns-2 c =
+    let p = c .before .before .before .before .before .pre in
+    (turn-gone _ _ _ _ (c .if1 .left) (p .3), p .4, p .2 .ofCodes)
 
 pub round-or-skip-spec : {M : Type 1} → statement M
-round-or-skip-spec = tie.close (tie.spec slice-read-if1 round-requires same-length returns returns-2)
+round-or-skip-spec =
+    tie.close (tie.spec slice-read-if1 round-requires same-length same-length-2 returns returns-2)

@@ -20,13 +20,13 @@ use Rattle.ranks.proofs.vetted.fill.fill_column.Statement.{statement}
 use Rattle.ranks.proofs.vetted.fill.fill_column.Tie as tie
 
 abbrev Inv-loop : tie.InvT-loop
-Inv-loop table numbers ends k column b columns rows n ranks₀ at c e i₀ ranks i =
+Inv-loop table numbers ends k column b columns rows n stride ranks₀ at c e i₀ ranks i =
     (i ≤ n) × (length ranks ≡ length ranks₀)
-    × ((marks : List Bool) → Ranked table ends marks columns rows n k ranks₀
-    → Placed (pos 0) (RankIn table ends marks columns rows) 8192 n k i ranks)
+    × ((marks : List Bool) → Ranked table ends marks columns rows n stride k ranks₀
+    → Placed (pos 0) (RankIn table ends marks columns rows) stride n k i ranks)
 
 abbrev μ-loop : tie.MeasureT-loop
-μ-loop table numbers ends k column b columns rows n ranks₀ at c e i₀ ranks i = n - i
+μ-loop table numbers ends k column b columns rows n stride ranks₀ at c e i₀ ranks i = n - i
 
 element-copy-out-e : tie.Need-element-copy-out-e Inv-loop μ-loop
 element-copy-out-e c = search needs
@@ -41,6 +41,27 @@ row : (c : tie.In-loop Inv-loop μ-loop)
 row c =
     let s = c .before .before .before .before in
     row-in (s .args .n) (s .args .columns) (length (now (s .args .rows))) (s .pre .run) (c .before .loop .i) (c .loop-test .taken)
+
+-- The place of row i's rank.
+place : (c : tie.In-loop Inv-loop μ-loop)
+    → c .before .loop .i / 64 * c .before .before .before .before .args .stride + c .before .before .before .before .args .k * 64
+    + c .before .loop .i % 64
+    < length (now (c .before .before .before .before .args .ranks))
+place c =
+    let s = c .before .before .before .before in
+    place-in (s .args .n) (s .args .stride) (s .pre .room) (c .before .loop .i) (s .args .k) (c .loop-test .taken) (s .pre .wide)
+
+mul-place : tie.Need-mul-place Inv-loop μ-loop
+mul-place c = omega (arith, place c)
+
+mul-place-2 : tie.Need-mul-place-2 Inv-loop μ-loop
+mul-place-2 c = omega (arith, place c)
+
+add-place : tie.Need-add-place Inv-loop μ-loop
+add-place c = omega (arith, place c)
+
+add-place-2 : tie.Need-add-place-2 Inv-loop μ-loop
+add-place-2 c = omega (arith, place c)
 
 mul-rank : tie.Need-mul-rank Inv-loop μ-loop
 mul-rank c = omega (arith, row c)
@@ -57,34 +78,11 @@ shared-slice-copy-out-rank c = omega (arith, row c)
 rank-requires : tie.Need-rank-requires Inv-loop μ-loop
 rank-requires c κs = let p = c .before .before .before .before .before .pre in (p .values, p .prepared)
 
--- The place of row i's rank.
-place : (c : tie.After-rank Inv-loop μ-loop)
-    → c .before .before .before .loop .i / 64 * 8192 + c .before .before .before .before .before .before .args .k * 64
-    + c .before .before .before .loop .i % 64
-    < length (now (c .before .before .before .before .before .before .args .ranks))
-place c =
-    let l = c .before .before .before in
-    let s = l .before .before .before in
-    let t = c .before .before .loop-test .taken in
-    place-in (s .args .n) 8192 (s .pre .room) (l .loop .i) (s .args .k) t (omega (arith, s .pre .few))
-
-mul-t26 : tie.Need-mul-t26 Inv-loop μ-loop
-mul-t26 c = omega (arith, place c)
-
-mul-t27 : tie.Need-mul-t27 Inv-loop μ-loop
-mul-t27 c = omega (arith, place c)
-
-add-t28 : tie.Need-add-t28 Inv-loop μ-loop
-add-t28 c = omega (arith, place c)
-
-add-t30 : tie.Need-add-t30 Inv-loop μ-loop
-add-t30 c = omega (arith, place c)
-
-mul-t31 : tie.Need-mul-t31 Inv-loop μ-loop
-mul-t31 c = omega (arith, place c)
+mul-t23 : tie.Need-mul-t23 Inv-loop μ-loop
+mul-t23 c = omega (arith, place (c .before .before))
 
 slice-set-from-ranks : tie.Need-slice-set-from-ranks Inv-loop μ-loop
-slice-set-from-ranks c = rw (c .before .before .before .loop .inv .1) (place c)
+slice-set-from-ranks c = rw (c .before .before .before .loop .inv .1) (place (c .before .before))
 
 add-i : tie.Need-add-i Inv-loop μ-loop
 add-i c = search needs
@@ -104,12 +102,12 @@ loop-again c =
     let x = read ∙ cell-run (a .columns) (now (a .rows)) i (a .column) (p .below) in
     let stored = toZ w32 (ofZ w32 (c .rank .result)) in
     let is : stored ≡ c .rank .result = toZ-ofZ (sfits-of (c .rank .ok)) in
-    let room = subst (Room (a .n) 8192) (sym (v .1)) (p .room) in (
+    let room = subst (Room (a .n) (a .stride)) (sym (v .1)) (p .room) in (
       search needs,
       simp length-set (v .1),
       λ marks r.
-          placed-store (pos 0) (RankIn (now (a .table)) (now (a .ends)) marks (a .columns) (now (a .rows))) 8192 (a .n) (a .k) i
-          (l .loop .ranks) stored room (c .before .before .loop-test .taken) (omega (arith, p .few))
+          placed-store (pos 0) (RankIn (now (a .table)) (now (a .ends)) marks (a .columns) (now (a .rows))) (a .stride) (a .n)
+          (a .k) i (l .loop .ranks) stored room (c .before .before .loop-test .taken) (p .wide)
           (rank-in (now (a .table)) (now (a .ends)) (a .columns) (now (a .rows)) (a .k) (p .isBase) marks i stored
           (rw is (rw x at (c .rank .ensures))))
           (v .2 marks r),
@@ -132,16 +130,16 @@ fill-column-spec =
     μ-loop
     element-copy-out-e
     loop-holds
+    mul-place
+    mul-place-2
+    add-place
+    add-place-2
     mul-rank
     add-rank
     mul-rank-2
     shared-slice-copy-out-rank
     rank-requires
-    mul-t26
-    mul-t27
-    add-t28
-    add-t30
-    mul-t31
+    mul-t23
     slice-set-from-ranks
     add-i
     loop-less

@@ -11,11 +11,11 @@ use Rattle.ranks.proofs.vetted.fill.fill_ranks.Statement.{statement}
 use Rattle.ranks.proofs.vetted.fill.fill_ranks.Tie as tie
 
 abbrev Inv-loop : tie.InvT-loop
-Inv-loop table numbers ends marks term columns rows n ranks₀ k₀ ranks k =
-    (k ≤ term + 1) × (length ranks ≡ length ranks₀) × Ranked table ends marks columns rows n k ranks
+Inv-loop table numbers ends marks term columns rows n stride ranks₀ k₀ ranks k =
+    (k ≤ term + 1) × (length ranks ≡ length ranks₀) × Ranked table ends marks columns rows n stride k ranks
 
 abbrev μ-loop : tie.MeasureT-loop
-μ-loop table numbers ends marks term columns rows n ranks₀ k₀ ranks k = term + 1 - k
+μ-loop table numbers ends marks term columns rows n stride ranks₀ k₀ ranks k = term + 1 - k
 
 loop-holds : tie.Need-loop-holds Inv-loop μ-loop
 loop-holds c = (omega arith, refl, record { each = λ b j h column t l m o d e. absurd (omega (arith, o)) })
@@ -32,7 +32,8 @@ fill-record-requires c κs =
         prepared = p .prepared;
         runs = p .runs;
         run = p .run;
-        room = subst (Room (s .args .n) 8192) (sym (v .1)) (p .room);
+        wide = omega (arith, p .wide);
+        room = subst (Room (s .args .n) (s .args .stride)) (sym (v .1)) (p .room);
       },
       v .2,
     )

@@ -15,12 +15,12 @@ use Rattle.rounds.proofs.vetted.meetings.eliminate.Statement.{statement
 use Rattle.rounds.proofs.vetted.meetings.eliminate.Tie as tie
 
 abbrev Inv-loop : tie.InvT-loop
-Inv-loop table numbers ends reach marks term group columns rows n ranks values gone₀ codes₀ i₀ gone codes i =
+Inv-loop table numbers ends reach marks exits term group columns rows n stride ranks values gone₀ codes₀ i₀ gone codes i =
     (i ≤ n) × (length gone ≡ length gone₀) × (length codes ≡ length codes₀)
     × Rounds (beatsIn (termAt table term) columns rows group) n i gone × Above n gone
 
 abbrev μ-loop : tie.MeasureT-loop
-μ-loop table numbers ends reach marks term group columns rows n ranks values gone₀ codes₀ i₀ gone codes i = n - i
+μ-loop table numbers ends reach marks exits term group columns rows n stride ranks values gone₀ codes₀ i₀ gone codes i = n - i
 
 loop-holds : tie.Need-loop-holds Inv-loop μ-loop
 loop-holds c =

@@ -14,12 +14,12 @@ use Rattle.rounds.proofs.vetted.meetings.round.Statement.{statement}
 use Rattle.rounds.proofs.vetted.meetings.round.Tie as tie
 
 abbrev Inv-loop : tie.InvT-loop
-Inv-loop table numbers ends reach marks term group columns rows n ranks values i gone₀ codes₀ b₀ gone codes b =
+Inv-loop table numbers ends reach marks exits term group columns rows n stride ranks values i gone₀ codes₀ b₀ gone codes b =
     (b ≤ 16) × (length gone ≡ length gone₀) × (length codes ≡ length codes₀)
     × Turn (beatsIn (termAt table term) columns rows group) n i (b * 64) gone × Above n gone
 
 abbrev μ-loop : tie.MeasureT-loop
-μ-loop table numbers ends reach marks term group columns rows n ranks values i gone₀ codes₀ b₀ gone codes b = n - b * 64
+μ-loop table numbers ends reach marks exits term group columns rows n stride ranks values i gone₀ codes₀ b₀ gone codes b = n - b * 64
 
 add-b : tie.Need-add-b Inv-loop μ-loop
 add-b c = search needs

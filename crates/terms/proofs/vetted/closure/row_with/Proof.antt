@@ -1,65 +1,62 @@
--- `terms::vetted::closure::row_with` meets its contract. The first `b` cells stand in the row. Assumes nothing.
-use mathlib.Core.Path.{_≡_, refl}
-use mathlib.Core.Bool.{Bool, false}
-use Prim.Native.Nat.{ℕ, _-_, _≤_, _<_}
-use native.Mathlib.Omega.{arith}
-use native.Mathlib.Nat.{not-suc-le-zero}
-use lib.ListN.{length, getD, length-set}
-use denote.Ref.{now}
+-- `terms::vetted::closure::row_with` meets its contract. Assumes nothing.
+use mathlib.Core.Path.{sym}
+use mathlib.Core.Bool.{or-false}
 use borrow.Author.Needs.{needs}
-use Rattle.laws.specs.Fill.{fill-more}
-use Rattle.terms.specs.Closure.{cellWith}
+use Rattle.terms.specs.Closure.{cellAt, reachesAt}
 use Rattle.terms.proofs.vetted.closure.row_with.Statement.{statement}
 use Rattle.terms.proofs.vetted.closure.row_with.Tie as tie
 
-abbrev Inv-loop : tie.InvT-loop
-Inv-loop x g e a row₀ b₀ row b = (b ≤ 32) × (length row ≡ 32) × ((i : ℕ) → i < b → getD row i false ≡ cellWith x g e a i)
+mul-row : tie.Need-mul-row
+mul-row c = search needs
 
-abbrev μ-loop : tie.MeasureT-loop
-μ-loop x g e a row₀ b₀ row b = 32 - b
+element-copy-out-row : tie.Need-element-copy-out-row
+element-copy-out-row c = search needs
 
-loop-holds : tie.Need-loop-holds Inv-loop μ-loop
-loop-holds c = (search needs, refl, λ b l. absurd (not-suc-le-zero l))
+mul-if1 : tie.Need-mul-if1
+mul-if1 c = search needs
 
-cell-with-requires : tie.Need-cell-with-requires Inv-loop μ-loop
-cell-with-requires c κs = search needs
+element-copy-out-if1 : tie.Need-element-copy-out-if1
+element-copy-out-if1 c = search needs
 
-array-write-row : tie.Need-array-write-row Inv-loop μ-loop
-array-write-row c = search needs
+mul-if1-2 : tie.Need-mul-if1-2
+mul-if1-2 c = search needs
 
-add-b : tie.Need-add-b Inv-loop μ-loop
-add-b c = search needs
+element-copy-out-if1-2 : tie.Need-element-copy-out-if1-2
+element-copy-out-if1-2 c = search needs
 
-loop-less : tie.Need-loop-less Inv-loop μ-loop
-loop-less c = search needs
+mul-if1-3 : tie.Need-mul-if1-3
+mul-if1-3 c = search needs
 
-loop-again : tie.Need-loop-again Inv-loop μ-loop
-loop-again c =
-    let l = c .before .before in
-    let a = l .before .args in
-    let w : l .loop .b < length (l .loop .row) = omega (arith, l .loop .inv .1) in (
-      search needs,
-      simp length-set (l .loop .inv .1),
-      fill-more false (λ (i : ℕ) (y : Bool). y ≡ cellWith (now (a .x)) (now (a .g)) (a .e) (a .a) i) (l .loop .row) (l .loop .b) (c .cell-with .result) w (l .loop .inv .2)
-          (c .cell-with .ensures),
-    )
+index-1-if1 : tie.Need-index-1-if1
+index-1-if1 c = search needs
 
-returns : tie.Need-returns Inv-loop μ-loop
-returns c = λ b h.
-    let l = c .before in
-    let w : b < l .loop .b = omega arith in
-    l .loop .inv .2 b w
+index-2-if1 : tie.Need-index-2-if1
+index-2-if1 c = search needs
+
+either-requires : tie.Need-either-requires
+either-requires c κs = search needs
+
+returns : tie.Need-returns
+unfolding reachesAt cellAt
+returns c = λ b h. rw (c .either .ensures b h, c .before .before .if1 .taken)
+
+returns-2 : tie.Need-returns-2
+unfolding reachesAt cellAt
+returns-2 c = λ b h. rw (c .if1 .left) (sym (or-false _))
 
 pub row-with-spec : {M : Type 1} → statement M
 row-with-spec =
     tie.close
     (tie.spec
-    Inv-loop
-    μ-loop
-    loop-holds
-    cell-with-requires
-    array-write-row
-    add-b
-    loop-less
-    loop-again
-    returns)
+    mul-row
+    element-copy-out-row
+    mul-if1
+    element-copy-out-if1
+    mul-if1-2
+    element-copy-out-if1-2
+    mul-if1-3
+    index-1-if1
+    index-2-if1
+    either-requires
+    returns
+    returns-2)

@@ -1,0 +1,2 @@
+-- The outcomes of a part that decide the asked term.
+pub mod Exits

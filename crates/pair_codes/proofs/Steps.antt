@@ -1,0 +1,77 @@
+-- From one term record to the next: the codes of the records below it stand, and the asked term is not passed. Assumes
+-- nothing.
+use mathlib.Core.Path.{_≡_, refl, sym, _∙_}
+use mathlib.Core.Logic.{⊎-elim}
+use mathlib.Core.Bool.{Bool, true, false, false≢true}
+use mathlib.Core.List.{List}
+use Prim.Native.Nat.{ℕ, _+_, _*_, _<_, _≤_}
+use native.Mathlib.Omega.{arith}
+use lib.Dec.{ltb}
+use lib.IntN.{ℤ}
+use lib.ListN.{getD, set, length}
+use lib.Seq.{getD-set-same, getD-set-other}
+use borrow.Author.Tests.{ltb-true, ltb-false}
+use Rattle.model.specs.Record.{recordCount, recordAt, isTerm}
+use Rattle.model.specs.Term.{termAt}
+use Rattle.model.specs.Better.{Row}
+use Rattle.laws.specs.Bools.{on-or-off}
+use Rattle.laws.specs.Search.{lt-suc-cases}
+use Rattle.laws.specs.Codes.{code}
+use Rattle.laws.specs.AcceptedTable.{accepted-table}
+use Rattle.values.specs.Prepared.{NextTerm}
+use Rattle.pair_codes.specs.Pairs.{Comparable, CodesBelow}
+
+-- None stands at first.
+pub codes-none : (table : List ℕ) (marks : List Bool) (x y : Row) (codes : List ℕ) → CodesBelow table marks x y 0 codes
+codes-none table marks x y codes = record { each = λ h l. absurd (omega (arith, l)) }
+
+module _ {table : List ℕ} {marks : List Bool} {x y : Row} {k : ℕ} {codes : List ℕ}
+    (below : CodesBelow table marks x y k codes) where
+  -- Up to the next term there are values only, so that record k's code is the one more.
+  more : {new : List ℕ} → ((h : ℕ) → h < k → getD new h 0 ≡ getD codes h 0)
+      → (getD marks k false ≡ true → isTerm (recordAt table k) ≡ true → getD new k 0 ≡ code (termAt table k) x y)
+      → {e m : ℕ} → NextTerm table k m e → CodesBelow table marks x y e new
+  more old here next =
+      record {
+        each = λ h l m t.
+            ⊎-elim
+            (λ b. ⊎-elim (λ c. old h c ∙ below .each h c m t) (λ c. rw c (here (rw c at m) (rw c at t)))
+            (lt-suc-cases h k (omega (arith, ltb-true h (k + 1) b))))
+            (λ b. absurd (false≢true (sym (next .between h (omega (arith, ltb-false h (k + 1) b)) l) ∙ t)))
+            (on-or-off (ltb h (k + 1)));
+      }
+
+  -- Record k is not marked.
+  pub codes-unmarked : getD marks k false ≡ false → {e m : ℕ} → NextTerm table k m e → CodesBelow table marks x y e codes
+  codes-unmarked u next = more (λ h l. refl) (λ m. absurd (false≢true (sym u ∙ m))) next
+
+  -- Its code is stored.
+  pub codes-stored : {c : ℕ} → k < length codes → c ≡ code (termAt table k) x y → {e m : ℕ} → NextTerm table k m e
+      → CodesBelow table marks x y e (set codes k c)
+  codes-stored {c} l is next =
+      more (λ h b. getD-set-other codes k h c 0 (λ q. omega (arith, b, q))) (λ m t. getD-set-same codes k c 0 l ∙ is) next
+
+module _ {table : List ℕ} {numbers : List ℤ} {ends : List ℕ} {reach : List (List Bool)} {marks : List Bool}
+    {exits : List ℕ} {term columns : ℕ} {rows : List ℤ} {n stride : ℕ} {ranks : List ℤ}
+    (ready : Comparable table numbers ends reach marks exits term columns rows n stride ranks) where
+  -- The first record is a term.
+  pub first-term : isTerm (recordAt table 0) ≡ true
+  first-term = accepted-table table columns (ready .taken .isAccepted) .first
+
+  module _ {k : ℕ} (is : isTerm (recordAt table k) ≡ true) (before : k < term) where
+    -- After term record k comes the next,
+    pub next-term : NextTerm table k (recordCount table) (getD ends k 0)
+    next-term = ready .runs .each k (omega (arith, before, ready .taken .below)) is .follows
+
+    -- which is not past the asked one,
+    pub next-most : getD ends k 0 ≤ term
+    next-most =
+        ⊎-elim
+        (λ b. absurd
+        (false≢true (sym (next-term .between term before (ltb-true term (getD ends k 0) b)) ∙ ready .taken .isRecord)))
+        (λ b. ltb-false term (getD ends k 0) b)
+        (on-or-off (ltb term (getD ends k 0)))
+
+    -- and a term record too.
+    pub next-is : isTerm (recordAt table (getD ends k 0)) ≡ true
+    next-is = next-term .ends (omega (arith, next-most, ready .taken .below))

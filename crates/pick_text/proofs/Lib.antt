@@ -1,0 +1,4 @@
+pub mod Numbers
+pub mod Answered
+pub mod Files
+pub mod Cleared

@@ -1,0 +1,74 @@
+// The text put at the start of a buffer: the table's refusals, then that of `rows.bin`, then the answers.
+use crate::MOST_TEXT;
+use crate::rows::fails_file;
+use crate::rows::put_numbers;
+use lines::vetted::put_answer;
+use lines::vetted::put_refused;
+use model::CheckReply;
+use model::MOST_COLUMNS;
+use model::MOST_ROWS;
+use model::QueryReply;
+use model::Refusal;
+use model::Summary;
+use query::query_by_parts;
+use table::check;
+ghost use mathlib.Core.Path.{_≡_};
+ghost use mathlib.Core.Bool.{false};
+ghost use mathlib.Core.List.{_++_};
+ghost use Prim.Native.Nat.{_-_, _≤_};
+ghost use lib.ListN.{length, take, replicate};
+ghost use Rattle.model.specs.declared.{CheckReply.CheckReply as Checked};
+ghost use Rattle.model.specs.Check.{checkReply};
+ghost use Rattle.model.specs.Pick.{failsFile, pickText};
+ghost use Rattle.lines.specs.Printed.{Printed};
+
+// Puts the text at the start of `out`.
+pub fn put_text(prefs: &[u8], rows: &[u8], out: &mut [u8; MOST_TEXT]) -> usize
+    ensures { λ r. ⌜ Printed (pickText (now (prefs .entry)) (now (rows .entry))) (now (out .exit)) r ⌝ }
+{
+    let reply = check(prefs, MOST_COLUMNS);
+    match reply {
+        CheckReply::Refused(why) => put_refused(why, out),
+        CheckReply::Accepted(s) => put_accepted(prefs, rows, s, out),
+    }
+}
+
+// The text for an accepted table, which is checked before `rows.bin`.
+fn put_accepted(prefs: &[u8], rows: &[u8], s: Summary, out: &mut [u8; MOST_TEXT]) -> usize
+    requires { ⌜ checkReply (now prefs) 8 ≡ Checked.Accepted s ⌝ }
+    ensures { λ r. ⌜ Printed (pickText (now (prefs .entry)) (now (rows .entry))) (now (out .exit)) r ⌝ }
+{
+    if fails_file(rows) {
+        return put_refused(Refusal::Rows, out);
+    }
+    put_answered(prefs, rows, s, out)
+}
+
+// The text for an accepted table and whole rows: the top over the rows, ungrouped, by the engine by parts.
+fn put_answered(prefs: &[u8], rows: &[u8], s: Summary, out: &mut [u8; MOST_TEXT]) -> usize
+    requires { ⌜ (checkReply (now prefs) 8 ≡ Checked.Accepted s) × (failsFile (now rows) ≡ false) ⌝ }
+    ensures { λ r. ⌜ Printed (pickText (now (prefs .entry)) (now (rows .entry))) (now (out .exit)) r ⌝ }
+{
+    let mut run = [0i32; 8192];
+    let count = rows.len() / 4;
+    put_numbers(rows, count, &mut run);
+    let mut answers = [0u16; MOST_ROWS];
+    let top = s.top as usize;
+    let reply = query_by_parts(prefs, MOST_COLUMNS, &run[..count], top, 0, &mut answers);
+    match reply {
+        QueryReply::Refused(why) => put_refused(why, out),
+        QueryReply::Kept(kept) => put_answer(s, kept, rows.len() / 32, &answers, out),
+    }
+}
+
+// Writes zeros from `from` on.
+pub fn clear(out: &mut [u8], from: usize)
+    requires { ⌜ from ≤ length (now out) ⌝ }
+    ensures { λ _. ⌜ now (out .exit) ≡ take from (now (out .entry)) ++ replicate (length (now (out .entry)) - from) 0 ⌝ }
+{
+    let mut i = from;
+    while i < out.len() {
+        out[i] = 0;
+        i += 1;
+    }
+}

@@ -1,0 +1,78 @@
+-- `query::direct::prepared` meets its contract. Assumes nothing.
+use borrow.Author.Needs.{needs}
+use Rattle.ranks.specs.Beneath.{parts-low}
+use Rattle.query.proofs.Taken.{vetted, term-below}
+use Rattle.query.proofs.Blocks.{rankable, same-room}
+use Rattle.query.proofs.Pairs.{comparable}
+use Rattle.query.proofs.direct.prepared.Statement.{statement}
+use Rattle.query.proofs.direct.prepared.Tie as tie
+
+numbers-requires : tie.Need-numbers-requires
+numbers-requires c κs = search needs
+
+run-ends-requires : tie.Need-run-ends-requires
+run-ends-requires c κs = vetted (c .before .before .before .pre .0 .taken)
+
+closures-requires : tie.Need-closures-requires
+closures-requires c κs =
+    let e = c .before in
+    (vetted (e .before .before .before .before .pre .0 .taken), e .run-ends .ensures)
+
+beneath-requires : tie.Need-beneath-requires
+beneath-requires c κs =
+    let a = c .before .before .before .before in
+    let t = a .before .before .before .pre .0 .taken in
+    (term-below t, a .numbers .ensures, parts-low _ _ _ (t .isAccepted) (t .below))
+
+exits-requires : tie.Need-exits-requires
+exits-requires c κs =
+    let a = c .before .before .before .before .before .before in
+    let t = a .before .before .before .pre .0 .taken in
+    record { columns = _; taken = t; prepared = a .numbers .ensures }
+
+fill-ranks-requires : tie.Need-fill-ranks-requires
+fill-ranks-requires c κs =
+    let m = c .before .before .before .before .before .before in
+    let e = m .before .before .before .before in
+    let a = e .before in
+    let s = a .before .before .before in
+    rankable (s .pre .0) (s .pre .1) (a .numbers .ensures) (e .run-ends .ensures) (m .beneath .ensures) (s .pre .2)
+
+by-pairs-requires : tie.Need-by-pairs-requires
+by-pairs-requires c κs =
+    let q = c .before .before .before .before .before .before .before in
+    let r = q .before in
+    let x = r .before .before .before .before .before in
+    let m = x .before .before in
+    let g = m .before .before in
+    let e = g .before .before in
+    let a = e .before in
+    let s = a .before .before .before in (
+      comparable (s .pre .0) (s .pre .1) (a .numbers .ensures) (e .run-ends .ensures) (g .closures .ensures) (m .beneath .ensures)
+          (x .exits .ensures) (r .fill-ranks .ensures) (same-room (q .ranks .given) (s .pre .2)),
+      s .pre .3,
+    )
+
+same-length : tie.Need-same-length
+same-length c = search needs
+
+same-length-2 : tie.Need-same-length-2
+same-length-2 c = search needs
+
+returns : tie.Need-returns
+returns c = search needs
+
+pub prepared-spec : {M : Type 1} → statement M
+prepared-spec =
+    tie.close
+    (tie.spec
+    numbers-requires
+    run-ends-requires
+    closures-requires
+    beneath-requires
+    exits-requires
+    fill-ranks-requires
+    by-pairs-requires
+    same-length
+    same-length-2
+    returns)
