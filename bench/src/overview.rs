@@ -1,0 +1,102 @@
+//! Table 1: every load at three sizes by the three, the smallest queries, and cold buffers.
+use crate::aims;
+use crate::clock::Pace;
+use crate::engines::{agreed, timed, timed_cold};
+use crate::loads::{self, Load};
+use crate::markdown::{figure, table, whole};
+use crate::rows::{MOST_ROWS, V};
+
+pub const SIZES: [usize; 3] = [MOST_ROWS, 128, 16];
+
+const HEAD: [&str; 9] = [
+    "load",
+    "rows",
+    "kept",
+    "direct",
+    "by parts",
+    "peer",
+    "peer/direct",
+    "peer/by parts",
+    "direct/by parts",
+];
+
+/// One load at one size: microseconds of each of the three.
+pub struct Line {
+    pub name: String,
+    pub rows: usize,
+    pub kept: usize,
+    pub direct: f64,
+    pub by_parts: f64,
+    pub peer: f64,
+}
+
+impl Line {
+    fn new(load: &Load, rows: usize, kept: usize, times: Vec<f64>) -> Line {
+        Line {
+            name: load.name.clone(),
+            rows,
+            kept,
+            direct: times[0],
+            by_parts: times[1],
+            peer: times[2],
+        }
+    }
+
+    fn warm(pace: Pace, load: &Load, rows: usize) -> Result<Line, String> {
+        let kept = agreed(load, rows)?;
+        Ok(Line::new(load, rows, kept, timed(pace, load, rows)))
+    }
+
+    fn cold(pace: Pace, load: &Load, rows: usize) -> Result<Line, String> {
+        let kept = agreed(load, rows)?;
+        let times = timed_cold(pace.rounds, load, rows);
+        Ok(Line::new(load, rows, kept, times))
+    }
+
+    fn cells(&self) -> Vec<String> {
+        vec![
+            self.name.clone(),
+            whole(self.rows),
+            whole(self.kept),
+            figure(self.direct),
+            figure(self.by_parts),
+            figure(self.peer),
+            figure(self.peer / self.direct),
+            figure(self.peer / self.by_parts),
+            figure(self.direct / self.by_parts),
+        ]
+    }
+}
+
+fn put(lines: &[Line]) {
+    let cells: Vec<_> = lines.iter().map(Line::cells).collect();
+    table(1, &HEAD, &cells);
+}
+
+pub fn print(pace: Pace) -> Result<(), String> {
+    println!("## Table 1: one query, microseconds\n");
+    println!("Warm: the same buffers in every round.\n");
+    let loads = loads::loads();
+    let mut all = Vec::new();
+    for rows in SIZES {
+        println!("### {} rows\n", whole(rows));
+        let lines = loads.iter().map(|load| Line::warm(pace, load, rows));
+        let lines = lines.collect::<Result<Vec<_>, _>>()?;
+        put(&lines);
+        all.extend(lines);
+    }
+    println!("### One row, and the seven rows of V\n");
+    let small = loads::t1_over_v();
+    put(&[
+        Line::warm(pace, &small, 1)?,
+        Line::warm(pace, &small, V.len())?,
+    ]);
+    println!("### Cold: 64 MiB walked before each call\n");
+    put(&[
+        Line::cold(pace, &small, V.len())?,
+        Line::cold(pace, &loads::pareto(2, "independent"), MOST_ROWS)?,
+        Line::cold(pace, &loads::pareto(8, "independent"), MOST_ROWS)?,
+    ]);
+    aims::print(&all);
+    Ok(())
+}
