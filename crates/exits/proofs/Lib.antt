@@ -1,2 +1,1 @@
--- That the exits of a compound's parts follow from its own.
-pub mod Parts
+-- Laws of the masks.

@@ -1,34 +1,85 @@
--- The outcomes of a part that decide the asked term (document 01, "Better, term by term"; codes as in laws/specs/Codes.antt).
+-- What the outcome of a record beneath the asked term tells of the asked term's (document 01, "Better, term by term"; codes as
+-- in laws/specs/Codes.antt). Each record has a mask: 0 tells nothing; 1: the asked term's code has the bits of the record's;
+-- 2: it has them with first and second better exchanged; 5 and 6: the same, and where the record's is not same, no others.
 use mathlib.Core.Path.{_≡_}
+use mathlib.Core.Bool.{Bool, true, false, cond, _&&_, _||_}
 use mathlib.Core.List.{List}
-use Prim.Native.Nat.{ℕ, _+_, _*_, _<_}
+use Prim.Native.Nat.{ℕ, _+_, _%_, _<_, _≤_}
+use lib.Bits.{bitOr}
+use lib.Dec.{eqb, ltb}
 use lib.IntN.{ℤ}
 use lib.ListN.{getD, set, length}
 use Rattle.model.specs.declared.{CompoundTerm.CompoundTerm, Pair.Pair, Record.Record}
 use Rattle.model.specs.declared.CompoundTerm.the-variants.{Joined, Dual}
 use Rattle.model.specs.declared.Pair.the-variants.{Pareto, Prior, Both}
 use Rattle.model.specs.declared.Record.the-variants.{Base, Compound, Unknown}
+use Rattle.model.specs.Record.{recordAt, isTerm}
 use Rattle.model.specs.Term.{termAt}
 use Rattle.model.specs.Better.{Row}
-use Rattle.laws.specs.Codes.{code}
+use Rattle.laws.specs.Codes.{code, turnedCode}
 use Rattle.laws.specs.Taken.{TakenTerm}
 use Rattle.values.specs.Prepared.{Numbers}
 
--- The exit of record k at a code: 4 is none.
-unfoldable pub exitAt : List ℕ → ℕ → ℕ → ℕ
-exitAt exits k c = getD exits (4 * k + c) 4
+-- ---- what a mask makes of a code
 
--- Where record k's code is c, the asked term's is the exit.
+-- 4 more says that it is the whole code. Same says nothing.
+unfoldable pub whollyCode : ℕ → ℕ
+whollyCode c = cond (eqb c 0) 0 (c + 4)
+
+-- What a record of mask m and code c tells.
+unfoldable pub toldCode : ℕ → ℕ → ℕ
+toldCode m c =
+    cond (eqb m 1) c (cond (eqb m 2) (turnedCode c) (cond (eqb m 5) (whollyCode c) (cond (eqb m 6) (whollyCode (turnedCode c)) 0)))
+
+-- The bits of the code among it.
+unfoldable pub bits : ℕ → ℕ
+bits v = v % 4
+
+-- Code a has no bits that w has not.
+unfoldable pub within : ℕ → ℕ → Bool
+within a w = eqb (bitOr a w) w
+
+-- What is told is true of the asked term's code o.
+unfoldable pub holds : ℕ → ℕ → Bool
+holds v o = (ltb v 4 && within v o) || eqb v (o + 4)
+
+-- ---- the masks of an asked term
+
+unfoldable pub maskAt : List ℕ → ℕ → ℕ
+maskAt exits k = getD exits k 0
+
+-- What record k tells of the asked term where x is compared with y.
+unfoldable pub tellsAt : List ℕ → List ℕ → Row → Row → ℕ → ℕ
+tellsAt table exits x y k = toldCode (maskAt exits k) (code (termAt table k) x y)
+
+-- What is told is true, and the asked term's code has no bits but those that its records tell.
 pub record Exits (table : List ℕ) (term : ℕ) (exits : List ℕ) : Type 0 where
-  pub room : length exits ≡ 512
-  pub each : (k c : ℕ) → k < 128 → c < 4 → exitAt exits k c < 4 → (x y : Row)
-      → code (termAt table k) x y ≡ c → code (termAt table term) x y ≡ exitAt exits k c
+  pub room : length exits ≡ 128
+  pub few : (k : ℕ) → maskAt exits k < 8
+  pub terms : (k : ℕ) → isTerm (recordAt table k) ≡ false → maskAt exits k ≡ 0
+  pub each : (k : ℕ) (x y : Row) → holds (tellsAt table exits x y k) (code (termAt table term) x y) ≡ true
+  pub whole : (x y : Row) (w : ℕ) → w < 4 → ((k : ℕ) → k ≤ term → within (bits (tellsAt table exits x y k)) w ≡ true)
+      → within (code (termAt table term) x y) w ≡ true
 
--- What the exits are found from.
+-- What the masks are found from.
 pub record Exitable (table : List ℕ) (numbers : List ℤ) (term : ℕ) : Type 0 where
   pub columns : ℕ
   pub taken : TakenTerm table columns term
   pub prepared : Numbers table numbers
+
+-- ---- from a compound's mask to its parts'
+
+-- Of the part of a DUAL.
+unfoldable pub turnedMask : ℕ → ℕ
+turnedMask m = cond (eqb m 1) 2 (cond (eqb m 2) 1 (cond (eqb m 5) 6 (cond (eqb m 6) 5 0)))
+
+-- Of a part of a PARETO or BOTH.
+unfoldable pub partMask : ℕ → ℕ
+partMask m = cond (eqb m 5) 1 (cond (eqb m 6) 2 m)
+
+-- What is left to the PARETO or BOTH itself, whose parts tell its bits.
+unfoldable pub ownMask : ℕ → ℕ
+ownMask m = cond (ltb m 4) 0 m
 
 -- The parts of a record are among 128 records.
 abbrev pub PartsWithin : Record → Type 0
@@ -38,25 +89,42 @@ PartsWithin (Compound (Joined op p q)) = (p < 128) × (q < 128)
 PartsWithin (Compound (Dual p)) = p < 128
 PartsWithin Unknown = Unit {0}
 
--- The exits with those of record p by its four codes,
-unfoldable pub entered : List ℕ → ℕ → ℕ → ℕ → ℕ → ℕ → List ℕ
-entered exits p same first second unranked =
-    set (set (set (set exits (4 * p) same) (4 * p + 1) first) (4 * p + 2) second) (4 * p + 3) unranked
+-- The asked term's own mask: PARETO's and BOTH's parts tell all of its code.
+abbrev pub joinedStart : Pair → ℕ
+joinedStart Pareto = 1
+joinedStart Prior = 5
+joinedStart Both = 1
 
--- with those of two parts,
-abbrev pub joinedExits : Pair → ℕ → ℕ → ℕ → ℕ → ℕ → List ℕ → List ℕ
-joinedExits Pareto p q first second unranked exits = entered (entered exits p 4 4 4 unranked) q 4 4 4 unranked
-joinedExits Prior p q first second unranked exits = entered exits p 4 first second unranked
-joinedExits Both p q first second unranked exits = entered (entered exits p 4 4 4 unranked) q 4 4 4 unranked
+abbrev pub startMask : Record → ℕ
+startMask (Record.Value a) = 5
+startMask (Base column b) = 5
+startMask (Compound (Joined op p q)) = joinedStart op
+startMask (Compound (Dual p)) = 5
+startMask Unknown = 5
 
--- with those of compound k's parts,
-abbrev pub compoundExits : CompoundTerm → ℕ → List ℕ → List ℕ
-compoundExits (Joined op p q) k exits = joinedExits op p q (exitAt exits k 1) (exitAt exits k 2) (exitAt exits k 3) exits
-compoundExits (Dual p) k exits = entered exits p (exitAt exits k 0) (exitAt exits k 2) (exitAt exits k 1) (exitAt exits k 3)
+-- The masks with those of the parts of compound k, of mask m, where they have none.
+unfoldable pub pushed : ℕ → ℕ → ℕ → ℕ → List ℕ → List ℕ
+pushed p q k m exits =
+    cond (eqb (getD exits p 0) 0 && eqb (getD exits q 0) 0)
+    (set (set (set exits p (partMask m)) q (partMask m)) k (ownMask m)) exits
 
--- and of record k's.
-abbrev pub recordExits : Record → ℕ → List ℕ → List ℕ
-recordExits (Record.Value a) k exits = exits
-recordExits (Base column b) k exits = exits
-recordExits (Compound c) k exits = compoundExits c k exits
-recordExits Unknown k exits = exits
+unfoldable pub leftPushed : ℕ → ℕ → List ℕ → List ℕ
+leftPushed p m exits = cond (eqb (getD exits p 0) 0) (set exits p m) exits
+
+unfoldable pub dualPushed : ℕ → ℕ → ℕ → List ℕ → List ℕ
+dualPushed p k m exits = cond (eqb (getD exits p 0) 0) (set (set exits p (turnedMask m)) k 0) exits
+
+abbrev pub joinedPushed : Pair → ℕ → ℕ → ℕ → ℕ → List ℕ → List ℕ
+joinedPushed Pareto p q k m exits = pushed p q k m exits
+joinedPushed Prior p q k m exits = leftPushed p m exits
+joinedPushed Both p q k m exits = pushed p q k m exits
+
+abbrev pub compoundPushed : CompoundTerm → ℕ → List ℕ → List ℕ
+compoundPushed (Joined op p q) k exits = joinedPushed op p q k (getD exits k 0) exits
+compoundPushed (Dual p) k exits = dualPushed p k (getD exits k 0) exits
+
+abbrev pub recordPushed : Record → ℕ → List ℕ → List ℕ
+recordPushed (Record.Value a) k exits = exits
+recordPushed (Base column b) k exits = exits
+recordPushed (Compound c) k exits = compoundPushed c k exits
+recordPushed Unknown k exits = exits

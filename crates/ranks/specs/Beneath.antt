@@ -28,10 +28,11 @@ OfRecord P Unknown = Unit {0}
 pub record PartsLow (table : List ℕ) (term : ℕ) : Type 0 where
   pub each : (k : ℕ) (c : CompoundTerm) → k ≤ term → recordAt table k ≡ Compound c → OfParts (λ p. p < k) c
 
--- The term is marked, and so are the parts of each marked compound from record m up to the term.
-pub record MarkedFrom (table : List ℕ) (term m : ℕ) (marks : List Bool) : Type 0 where
+-- Each record that tells of the asked term, by its mask (crate `exits`), is marked, and so are the parts of each marked compound
+-- from record m up to the term.
+pub record MarkedFrom (table : List ℕ) (term m : ℕ) (exits : List ℕ) (marks : List Bool) : Type 0 where
   pub room : length marks ≡ 128
-  pub asked : getD marks term false ≡ true
+  pub telling : (k : ℕ) → getD marks k false ≡ false → getD exits k 0 ≡ 0
   pub parts : (k : ℕ) (c : CompoundTerm) → m ≤ k → k ≤ term → getD marks k false ≡ true → recordAt table k ≡ Compound c
       → OfParts (λ p. getD marks p false ≡ true) c
 
@@ -47,9 +48,9 @@ recordMarked (Base column b) marks = marks
 recordMarked (Compound c) marks = partsMarked c marks
 recordMarked Unknown marks = marks
 
--- All records beneath the term are marked.
-abbrev pub Marked : List ℕ → ℕ → List Bool → Type 0
-Marked table term marks = MarkedFrom table term 0 marks
+-- All records whose codes are needed are marked.
+abbrev pub Marked : List ℕ → ℕ → List ℕ → List Bool → Type 0
+Marked table term exits marks = MarkedFrom table term 0 exits marks
 
 -- An accepted table's parts stand below their compounds.
 pub parts-low : (table : List ℕ) (columns term : ℕ) → Accepted table columns → term < recordCount table

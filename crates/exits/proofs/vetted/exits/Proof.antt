@@ -1,83 +1,65 @@
--- `exits::vetted::exits` meets its contract: what is entered holds, from the term downward. Assumes nothing.
-use mathlib.Core.Path.{refl}
-use Prim.Native.Nat.{_+_, _-_, _≤_}
-use native.Mathlib.Omega.{arith}
-use lib.ListN.{replicate}
-use denote.Ref.{now}
 use borrow.Author.Needs.{needs}
-use Rattle.exits.specs.Exits.{Exits}
-use Rattle.exits.proofs.Parts.{term-low, exits-start, exits-more, parts-within}
 use Rattle.exits.proofs.vetted.exits.Statement.{statement}
 use Rattle.exits.proofs.vetted.exits.Tie as tie
+use Rattle.exits.proofs.vetted.exits.Reads as reads
+use Rattle.exits.proofs.vetted.exits.Lts as lts
+use Rattle.exits.proofs.vetted.push.Reads as push-reads
+use Rattle.exits.proofs.vetted.start_mask.Reads as start-mask-reads
+use Rattle.values.proofs.vetted.lookup.decoded.Reads as decoded-reads
 
 abbrev Inv-loop : tie.InvT-loop
-Inv-loop table numbers term exits₀ k₀ exits k = (k ≤ term + 1) × Exits table term exits
+Inv-loop table numbers term exits₀ top k₀ exits k = ?
 
 abbrev μ-loop : tie.MeasureT-loop
-μ-loop table numbers term exits₀ k₀ exits k = k
+μ-loop table numbers term exits₀ top k₀ exits k = ?
 
-slice-aggregate-enter : tie.Need-slice-aggregate-enter Inv-loop μ-loop
-slice-aggregate-enter c = search needs
+-- src/vetted.rt:52:29
+decoded-requires : tie.Need-decoded-requires Inv-loop μ-loop
+decoded-requires c κs = search needs
 
-enter-requires : tie.Need-enter-requires Inv-loop μ-loop
-enter-requires c κs =
-    let s = c .before .before in
-    let l = term-low (s .pre) in
-    (omega arith, refl)
+-- src/vetted.rt:52:18
+start-mask-requires : tie.Need-start-mask-requires Inv-loop μ-loop
+start-mask-requires c κs = search needs
 
+-- src/vetted.rt:52:5
+array-write-exits : tie.Need-array-write-exits Inv-loop μ-loop
+array-write-exits c = search needs
+
+-- src/vetted.rt:53:17
 add-k : tie.Need-add-k Inv-loop μ-loop
-add-k c =
-    let s = c .before .before .before .before in
-    let l = term-low (s .pre) in
-    omega arith
+add-k c = search needs
 
+-- src/vetted.rt:54:5
 loop-holds : tie.Need-loop-holds Inv-loop μ-loop
-loop-holds c =
-    let s = c .before .before .before .before in
-    let a = s .args in
-    let l = term-low (s .pre) in
-    let start = exits-start (now (a .table)) (a .term) (omega arith) (replicate 512 4) refl in
-    (omega arith, rw (c .before .enter .ensures) start)
+loop-holds c = search needs
 
+-- src/vetted.rt:55:9
 sub-k : tie.Need-sub-k Inv-loop μ-loop
 sub-k c = search needs
 
-decoded-requires : tie.Need-decoded-requires Inv-loop μ-loop
-decoded-requires c κs =
-    let s = c .before .before .before .before .before .before in
-    let l = term-low (s .pre) in
-    (omega arith, s .pre .prepared)
+-- src/vetted.rt:56:14
+decoded-requires-2 : tie.Need-decoded-requires-2 Inv-loop μ-loop
+decoded-requires-2 c κs = search needs
 
-slice-aggregate-of-record : tie.Need-slice-aggregate-of-record Inv-loop μ-loop
-slice-aggregate-of-record c = search needs
+-- src/vetted.rt:56:45
+slice-aggregate-push : tie.Need-slice-aggregate-push Inv-loop μ-loop
+slice-aggregate-push c = search needs
 
-of-record-requires : tie.Need-of-record-requires Inv-loop μ-loop
-of-record-requires c κs =
-    let loop = c .before .before .before in
-    let s = loop .before .before .before .before .before in
-    let a = s .args in
-    let l = term-low (s .pre) in
-    let parts =
-    parts-within (now (a .table)) (s .pre .columns) (s .pre .taken .isAccepted) (a .term) (loop .loop .k - 1) (omega arith)
-    (loop .loop .exits) (loop .loop .inv .1) in
-    (omega arith, rw (c .before .decoded .ensures) parts, loop .loop .inv .1 .room)
+-- src/vetted.rt:56:9
+push-requires : tie.Need-push-requires Inv-loop μ-loop
+push-requires c κs = search needs
 
+-- src/vetted.rt:54:5
 loop-less : tie.Need-loop-less Inv-loop μ-loop
 loop-less c = search needs
 
+-- src/vetted.rt:54:5
 loop-again : tie.Need-loop-again Inv-loop μ-loop
-loop-again c =
-    let loop = c .before .before .before .before .before in
-    let s = loop .before .before .before .before .before in
-    let a = s .args in
-    let l = term-low (s .pre) in
-    let next =
-    exits-more (now (a .table)) (s .pre .columns) (s .pre .taken .isAccepted) (a .term) (loop .loop .k - 1) (omega arith)
-    (loop .loop .exits) (loop .loop .inv .1) in
-    (omega arith, rw (c .before .of-record .ensures, c .before .before .before .decoded .ensures) next)
+loop-again c = search needs
 
+-- src/vetted.rt:46:1
 returns : tie.Need-returns Inv-loop μ-loop
-returns c = c .before .loop .inv .1
+returns c = search needs
 
 pub exits-spec : {M : Type 1} → statement M
 exits-spec =
@@ -85,14 +67,15 @@ exits-spec =
     (tie.spec
     Inv-loop
     μ-loop
-    slice-aggregate-enter
-    enter-requires
+    decoded-requires
+    start-mask-requires
+    array-write-exits
     add-k
     loop-holds
     sub-k
-    decoded-requires
-    slice-aggregate-of-record
-    of-record-requires
+    decoded-requires-2
+    slice-aggregate-push
+    push-requires
     loop-less
     loop-again
     returns)

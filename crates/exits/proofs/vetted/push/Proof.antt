@@ -1,7 +1,9 @@
--- `exits::vetted::of_record` meets its contract. Assumes nothing.
 use borrow.Author.Needs.{needs}
-use Rattle.exits.proofs.vetted.of_record.Statement.{statement}
-use Rattle.exits.proofs.vetted.of_record.Tie as tie
+use Rattle.exits.proofs.vetted.push.Statement.{statement}
+use Rattle.exits.proofs.vetted.push.Tie as tie
+use Rattle.exits.proofs.vetted.push.Reads as reads
+use Rattle.exits.proofs.vetted.push.Lts as lts
+use Rattle.exits.proofs.vetted.push_compound.Reads as push-compound-reads
 
 enum-told : tie.Need-enum-told
 enum-told c = search needs
@@ -9,41 +11,45 @@ enum-told c = search needs
 enum-told-2 : tie.Need-enum-told-2
 enum-told-2 c = search needs
 
+-- src/vetted.rt:100:26
 enum-known-r : tie.Need-enum-known-r
 enum-known-r c = search needs
 
-of-compound-requires : tie.Need-of-compound-requires
-of-compound-requires c κs =
-    let k = c .before .before in
-    let s = k .before .before .before in
-    (s .pre .0, rw (k .r .given .1) at (s .pre .1), s .pre .2)
+-- src/vetted.rt:100:32
+push-compound-requires : tie.Need-push-compound-requires
+push-compound-requires c κs = ?
 
 enum-told-3 : tie.Need-enum-told-3
 enum-told-3 c = search needs
 
+-- src/vetted.rt:93:1
 returns : tie.Need-returns
 returns c = search needs
 
+-- src/vetted.rt:93:1
 returns-2 : tie.Need-returns-2
 returns-2 c = search needs
 
+-- src/vetted.rt:93:1
 same-length : tie.Need-same-length
 same-length c = search needs
 
+-- src/vetted.rt:93:1
 returns-3 : tie.Need-returns-3
-returns-3 c = rw (c .before .before .before .before .before .r .given .1) (c .before .before .of-compound .ensures)
+returns-3 c = ?
 
+-- src/vetted.rt:93:1
 returns-4 : tie.Need-returns-4
 returns-4 c = search needs
 
-pub of-record-spec : {M : Type 1} → statement M
-of-record-spec =
+pub push-spec : {M : Type 1} → statement M
+push-spec =
     tie.close
     (tie.spec
     enum-told
     enum-told-2
     enum-known-r
-    of-compound-requires
+    push-compound-requires
     enum-told-3
     returns
     returns-2
