@@ -1,1 +1,4 @@
--- Laws of the masks.
+-- What the masks of an asked term tell, and how a compound's go over to its parts.
+pub mod Bits
+pub mod Masks
+pub mod Parts

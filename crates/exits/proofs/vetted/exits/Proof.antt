@@ -1,65 +1,88 @@
+-- `exits::vetted::exits` meets its contract. Assumes nothing.
+use mathlib.Core.Path.{refl}
+use Prim.Native.Nat.{_+_, _-_, _≤_}
+use native.Mathlib.Omega.{arith}
+use lib.ListN.{replicate}
+use denote.Ref.{now}
 use borrow.Author.Needs.{needs}
+use Rattle.exits.specs.Exits.{Exits}
+use Rattle.exits.proofs.Parts.{term-low, exits-start, exits-more, parts-in}
 use Rattle.exits.proofs.vetted.exits.Statement.{statement}
 use Rattle.exits.proofs.vetted.exits.Tie as tie
-use Rattle.exits.proofs.vetted.exits.Reads as reads
-use Rattle.exits.proofs.vetted.exits.Lts as lts
-use Rattle.exits.proofs.vetted.push.Reads as push-reads
-use Rattle.exits.proofs.vetted.start_mask.Reads as start-mask-reads
-use Rattle.values.proofs.vetted.lookup.decoded.Reads as decoded-reads
 
 abbrev Inv-loop : tie.InvT-loop
-Inv-loop table numbers term exits₀ top k₀ exits k = ?
+Inv-loop table numbers term exits₀ top k₀ exits k = (k ≤ term + 1) × Exits table term exits
 
 abbrev μ-loop : tie.MeasureT-loop
-μ-loop table numbers term exits₀ top k₀ exits k = ?
+μ-loop table numbers term exits₀ top k₀ exits k = k
 
--- src/vetted.rt:52:29
 decoded-requires : tie.Need-decoded-requires Inv-loop μ-loop
-decoded-requires c κs = search needs
+decoded-requires c κs =
+    let s = c .before in
+    let l = term-low (s .pre) in
+    (omega arith, s .pre .prepared)
 
--- src/vetted.rt:52:18
 start-mask-requires : tie.Need-start-mask-requires Inv-loop μ-loop
 start-mask-requires c κs = search needs
 
--- src/vetted.rt:52:5
 array-write-exits : tie.Need-array-write-exits Inv-loop μ-loop
-array-write-exits c = search needs
+array-write-exits c =
+    let l = term-low (c .before .before .before .pre) in
+    omega arith
 
--- src/vetted.rt:53:17
 add-k : tie.Need-add-k Inv-loop μ-loop
-add-k c = search needs
+add-k c =
+    let l = term-low (c .before .before .before .pre) in
+    omega arith
 
--- src/vetted.rt:54:5
 loop-holds : tie.Need-loop-holds Inv-loop μ-loop
-loop-holds c = search needs
+loop-holds c =
+    let s = c .before .before .before in
+    let a = s .args in
+    let l = term-low (s .pre) in
+    let start =
+    exits-start (now (a .table)) (a .term) (omega arith) (s .pre .taken .isRecord) (replicate 128 0) refl (c .before .decoded .result) in
+    (omega arith, rw (c .start-mask .ensures) start)
 
--- src/vetted.rt:55:9
 sub-k : tie.Need-sub-k Inv-loop μ-loop
 sub-k c = search needs
 
--- src/vetted.rt:56:14
 decoded-requires-2 : tie.Need-decoded-requires-2 Inv-loop μ-loop
-decoded-requires-2 c κs = search needs
+decoded-requires-2 c κs =
+    let s = c .before .before .before .before .before in
+    let l = term-low (s .pre) in
+    (omega arith, s .pre .prepared)
 
--- src/vetted.rt:56:45
 slice-aggregate-push : tie.Need-slice-aggregate-push Inv-loop μ-loop
 slice-aggregate-push c = search needs
 
--- src/vetted.rt:56:9
 push-requires : tie.Need-push-requires Inv-loop μ-loop
-push-requires c κs = search needs
+push-requires c κs =
+    let loop = c .before .before .before in
+    let s = loop .before .before .before .before in
+    let a = s .args in
+    let l = term-low (s .pre) in
+    let parts =
+    parts-in (now (a .table)) (s .pre .columns) (s .pre .taken .isAccepted) (a .term) (loop .loop .k - 1) (omega arith)
+    (omega arith) (loop .loop .exits) (loop .loop .inv .1) in
+    (omega arith, rw (c .before .decoded2 .ensures) parts, loop .loop .inv .1 .room)
 
--- src/vetted.rt:54:5
 loop-less : tie.Need-loop-less Inv-loop μ-loop
 loop-less c = search needs
 
--- src/vetted.rt:54:5
 loop-again : tie.Need-loop-again Inv-loop μ-loop
-loop-again c = search needs
+loop-again c =
+    let loop = c .before .before .before .before .before in
+    let s = loop .before .before .before .before in
+    let a = s .args in
+    let l = term-low (s .pre) in
+    let next =
+    exits-more (now (a .table)) (s .pre .columns) (s .pre .taken .isAccepted) (a .term) (loop .loop .k - 1) (omega arith)
+    (omega arith) (loop .loop .exits) (loop .loop .inv .1) in
+    (omega arith, rw (c .before .push .ensures, c .before .before .before .decoded2 .ensures) next)
 
--- src/vetted.rt:46:1
 returns : tie.Need-returns Inv-loop μ-loop
-returns c = search needs
+returns c = c .before .loop .inv .1
 
 pub exits-spec : {M : Type 1} → statement M
 exits-spec =

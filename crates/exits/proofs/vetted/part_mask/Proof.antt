@@ -1,19 +1,20 @@
+-- `exits::vetted::part_mask` meets its contract. Assumes nothing.
+use borrow.Author.Tests.{eq-eqb, ne-eqb}
+use Rattle.exits.specs.Exits.{partMask}
 use Rattle.exits.proofs.vetted.part_mask.Statement.{statement}
 use Rattle.exits.proofs.vetted.part_mask.Tie as tie
-use Rattle.exits.proofs.vetted.part_mask.Reads as reads
-use Rattle.exits.proofs.vetted.part_mask.Lts as lts
 
--- src/vetted.rt:189:9
 returns : tie.Need-returns
-returns c = ?
+unfolding partMask
+returns c = rw (eq-eqb _ _ (c .if1 .taken))
 
--- src/vetted.rt:192:9
 returns-2 : tie.Need-returns-2
-returns-2 c = ?
+unfolding partMask
+returns-2 c = rw (ne-eqb _ _ (c .before .if1 .left), eq-eqb _ _ (c .if2 .taken))
 
--- src/vetted.rt:185:1
 returns-3 : tie.Need-returns-3
-returns-3 c = ?
+unfolding partMask
+returns-3 c = rw (ne-eqb _ _ (c .before .if1 .left), ne-eqb _ _ (c .if2 .left))
 
 pub part-mask-spec : {M : Type 1} → statement M
 part-mask-spec = tie.close (tie.spec returns returns-2 returns-3)

@@ -1,9 +1,7 @@
+-- `exits::vetted::push` meets its contract. Assumes nothing.
 use borrow.Author.Needs.{needs}
 use Rattle.exits.proofs.vetted.push.Statement.{statement}
 use Rattle.exits.proofs.vetted.push.Tie as tie
-use Rattle.exits.proofs.vetted.push.Reads as reads
-use Rattle.exits.proofs.vetted.push.Lts as lts
-use Rattle.exits.proofs.vetted.push_compound.Reads as push-compound-reads
 
 enum-told : tie.Need-enum-told
 enum-told c = search needs
@@ -11,34 +9,30 @@ enum-told c = search needs
 enum-told-2 : tie.Need-enum-told-2
 enum-told-2 c = search needs
 
--- src/vetted.rt:100:26
 enum-known-r : tie.Need-enum-known-r
 enum-known-r c = search needs
 
--- src/vetted.rt:100:32
 push-compound-requires : tie.Need-push-compound-requires
-push-compound-requires c κs = ?
+push-compound-requires c κs =
+    let k = c .before .before in
+    let s = k .before .before .before in
+    (s .pre .0, rw (k .r .given .1) at (s .pre .1), s .pre .2)
 
 enum-told-3 : tie.Need-enum-told-3
 enum-told-3 c = search needs
 
--- src/vetted.rt:93:1
 returns : tie.Need-returns
 returns c = search needs
 
--- src/vetted.rt:93:1
 returns-2 : tie.Need-returns-2
 returns-2 c = search needs
 
--- src/vetted.rt:93:1
 same-length : tie.Need-same-length
 same-length c = search needs
 
--- src/vetted.rt:93:1
 returns-3 : tie.Need-returns-3
-returns-3 c = ?
+returns-3 c = rw (c .before .before .before .before .before .r .given .1) (c .before .before .push-compound .ensures)
 
--- src/vetted.rt:93:1
 returns-4 : tie.Need-returns-4
 returns-4 c = search needs
 

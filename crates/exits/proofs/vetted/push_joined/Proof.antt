@@ -1,58 +1,43 @@
+-- `exits::vetted::push_joined` meets its contract. Assumes nothing.
 use borrow.Author.Needs.{needs}
 use Rattle.exits.proofs.vetted.push_joined.Statement.{statement}
 use Rattle.exits.proofs.vetted.push_joined.Tie as tie
-use Rattle.exits.proofs.vetted.push_joined.Reads as reads
-use Rattle.exits.proofs.vetted.push_joined.Lts as lts
-use Rattle.exits.proofs.vetted.push_both.Reads as push-both-reads
-use Rattle.exits.proofs.vetted.push_left.Reads as push-left-reads
 
--- src/vetted.rt:122:47
 enum-told : tie.Need-enum-told
 enum-told c = search needs
 
--- src/vetted.rt:122:25
 push-both-requires : tie.Need-push-both-requires
 push-both-requires c κs = search needs
 
--- src/vetted.rt:123:40
 enum-told-2 : tie.Need-enum-told-2
 enum-told-2 c = search needs
 
--- src/vetted.rt:123:24
 push-left-requires : tie.Need-push-left-requires
 push-left-requires c κs = search needs
 
--- src/vetted.rt:124:45
 enum-told-3 : tie.Need-enum-told-3
 enum-told-3 c = search needs
 
--- src/vetted.rt:124:23
 push-both-requires-2 : tie.Need-push-both-requires-2
 push-both-requires-2 c κs = search needs
 
--- src/vetted.rt:117:1
 same-length : tie.Need-same-length
 same-length c = search needs
 
--- src/vetted.rt:117:1
 returns : tie.Need-returns
-returns c = ?
+returns c = rw (c .before .before .before .before .enum-told .given .1) (c .before .before .push-both .ensures)
 
--- src/vetted.rt:117:1
 same-length-2 : tie.Need-same-length-2
 same-length-2 c = search needs
 
--- src/vetted.rt:117:1
 returns-2 : tie.Need-returns-2
-returns-2 c = ?
+returns-2 c = rw (c .before .before .before .before .enum-told2 .given .1) (c .before .before .push-left .ensures)
 
--- src/vetted.rt:117:1
 same-length-3 : tie.Need-same-length-3
 same-length-3 c = search needs
 
--- src/vetted.rt:117:1
 returns-3 : tie.Need-returns-3
-returns-3 c = ?
+returns-3 c = rw (c .before .before .before .before .enum-told3 .given .1) (c .before .before .push-both2 .ensures)
 
 pub push-joined-spec : {M : Type 1} → statement M
 push-joined-spec =

@@ -1,28 +1,26 @@
+-- `exits::vetted::push_left` meets its contract. Assumes nothing.
 use borrow.Author.Needs.{needs}
+use borrow.Author.Tests.{eq-eqb, ne-eqb}
+use Rattle.exits.specs.Exits.{leftPushed}
 use Rattle.exits.proofs.vetted.push_left.Statement.{statement}
 use Rattle.exits.proofs.vetted.push_left.Tie as tie
-use Rattle.exits.proofs.vetted.push_left.Reads as reads
-use Rattle.exits.proofs.vetted.push_left.Lts as lts
 
--- src/vetted.rt:149:8
 slice-read-if1 : tie.Need-slice-read-if1
 slice-read-if1 c = search needs
 
--- src/vetted.rt:150:9
 slice-write-exits : tie.Need-slice-write-exits
 slice-write-exits c = search needs
 
--- src/vetted.rt:144:1
 same-length : tie.Need-same-length
 same-length c = search needs
 
--- src/vetted.rt:144:1
 returns : tie.Need-returns
-returns c = ?
+unfolding leftPushed
+returns c = rw (eq-eqb _ _ (c .if1 .taken))
 
--- src/vetted.rt:144:1
 returns-2 : tie.Need-returns-2
-returns-2 c = ?
+unfolding leftPushed
+returns-2 c = rw (ne-eqb _ _ (c .if1 .left))
 
 pub push-left-spec : {M : Type 1} → statement M
 push-left-spec =

@@ -1,46 +1,42 @@
+-- `exits::vetted::told` meets its contract. Assumes nothing.
 use borrow.Author.Needs.{needs}
+use borrow.Author.Tests.{eq-eqb, ne-eqb}
+use Rattle.exits.specs.Exits.{toldCode}
+use Rattle.exits.proofs.Bits.{turned-low}
 use Rattle.exits.proofs.vetted.told.Statement.{statement}
 use Rattle.exits.proofs.vetted.told.Tie as tie
-use Rattle.exits.proofs.vetted.told.Reads as reads
-use Rattle.exits.proofs.vetted.told.Lts as lts
-use Rattle.codes.proofs.turned_code.Reads as turned-code-reads
-use Rattle.exits.proofs.vetted.wholly.Reads as wholly-reads
 
--- src/vetted.rt:21:9
 returns : tie.Need-returns
-returns c = ?
+unfolding toldCode
+returns c = rw (eq-eqb _ _ (c .if1 .taken))
 
--- src/vetted.rt:24:9
 turned-code-requires : tie.Need-turned-code-requires
 turned-code-requires c κs = search needs
 
--- src/vetted.rt:24:9
 returns-2 : tie.Need-returns-2
-returns-2 c = ?
+unfolding toldCode
+returns-2 c = rw (ne-eqb _ _ (c .before .before .if1 .left), eq-eqb _ _ (c .before .if2 .taken)) (c .turned-code .ensures)
 
--- src/vetted.rt:27:9
 wholly-requires : tie.Need-wholly-requires
 wholly-requires c κs = search needs
 
--- src/vetted.rt:27:9
 returns-3 : tie.Need-returns-3
-returns-3 c = ?
+unfolding toldCode
+returns-3 c = rw (ne-eqb _ _ (c .before .before .before .if1 .left), ne-eqb _ _ (c .before .before .if2 .left), eq-eqb _ _ (c .before .if3 .taken)) (c .wholly .ensures)
 
--- src/vetted.rt:30:23
 turned-code-requires-2 : tie.Need-turned-code-requires-2
 turned-code-requires-2 c κs = search needs
 
--- src/vetted.rt:30:9
 wholly-requires-2 : tie.Need-wholly-requires-2
-wholly-requires-2 c κs = ?
+wholly-requires-2 c κs = rw (c .turned-code2 .ensures) (turned-low _ (c .before .before .before .before .before .pre))
 
--- src/vetted.rt:30:9
 returns-4 : tie.Need-returns-4
-returns-4 c = ?
+unfolding toldCode
+returns-4 c = rw (ne-eqb _ _ (c .before .before .before .before .before .if1 .left), ne-eqb _ _ (c .before .before .before .before .if2 .left), ne-eqb _ _ (c .before .before .before .if3 .left), eq-eqb _ _ (c .before .before .if4 .taken), ← (c .before .turned-code2 .ensures)) (c .wholly2 .ensures)
 
--- src/vetted.rt:16:1
 returns-5 : tie.Need-returns-5
-returns-5 c = ?
+unfolding toldCode
+returns-5 c = rw (ne-eqb _ _ (c .before .before .before .if1 .left), ne-eqb _ _ (c .before .before .if2 .left), ne-eqb _ _ (c .before .if3 .left), ne-eqb _ _ (c .if4 .left))
 
 pub told-spec : {M : Type 1} → statement M
 told-spec =

@@ -1,27 +1,30 @@
+-- `exits::vetted::turned_mask` meets its contract. Assumes nothing.
+use borrow.Author.Tests.{eq-eqb, ne-eqb}
+use Rattle.exits.specs.Exits.{turnedMask}
 use Rattle.exits.proofs.vetted.turned_mask.Statement.{statement}
 use Rattle.exits.proofs.vetted.turned_mask.Tie as tie
-use Rattle.exits.proofs.vetted.turned_mask.Reads as reads
-use Rattle.exits.proofs.vetted.turned_mask.Lts as lts
 
--- src/vetted.rt:171:9
 returns : tie.Need-returns
-returns c = ?
+unfolding turnedMask
+returns c = rw (eq-eqb _ _ (c .if1 .taken))
 
--- src/vetted.rt:174:9
 returns-2 : tie.Need-returns-2
-returns-2 c = ?
+unfolding turnedMask
+returns-2 c = rw (ne-eqb _ _ (c .before .if1 .left), eq-eqb _ _ (c .if2 .taken))
 
--- src/vetted.rt:177:9
 returns-3 : tie.Need-returns-3
-returns-3 c = ?
+unfolding turnedMask
+returns-3 c = rw (ne-eqb _ _ (c .before .before .if1 .left), ne-eqb _ _ (c .before .if2 .left), eq-eqb _ _ (c .if3 .taken))
 
--- src/vetted.rt:180:9
 returns-4 : tie.Need-returns-4
-returns-4 c = ?
+unfolding turnedMask
+returns-4 c =
+    rw (ne-eqb _ _ (c .before .before .before .if1 .left), ne-eqb _ _ (c .before .before .if2 .left), ne-eqb _ _ (c .before .if3 .left), eq-eqb _ _ (c .if4 .taken))
 
--- src/vetted.rt:167:1
 returns-5 : tie.Need-returns-5
-returns-5 c = ?
+unfolding turnedMask
+returns-5 c =
+    rw (ne-eqb _ _ (c .before .before .before .if1 .left), ne-eqb _ _ (c .before .before .if2 .left), ne-eqb _ _ (c .before .if3 .left), ne-eqb _ _ (c .if4 .left))
 
 pub turned-mask-spec : {M : Type 1} → statement M
 turned-mask-spec = tie.close (tie.spec returns returns-2 returns-3 returns-4 returns-5)

@@ -1,20 +1,20 @@
+-- `exits::vetted::wholly` meets its contract. Assumes nothing.
 use borrow.Author.Needs.{needs}
+use borrow.Author.Tests.{eq-eqb, ne-eqb}
+use Rattle.exits.specs.Exits.{whollyCode}
 use Rattle.exits.proofs.vetted.wholly.Statement.{statement}
 use Rattle.exits.proofs.vetted.wholly.Tie as tie
-use Rattle.exits.proofs.vetted.wholly.Reads as reads
-use Rattle.exits.proofs.vetted.wholly.Lts as lts
 
--- src/vetted.rt:40:9
 returns : tie.Need-returns
-returns c = ?
+unfolding whollyCode
+returns c = rw (eq-eqb _ _ (c .if1 .taken))
 
--- src/vetted.rt:42:5
 add-result : tie.Need-add-result
 add-result c = search needs
 
--- src/vetted.rt:35:1
 returns-2 : tie.Need-returns-2
-returns-2 c = ?
+unfolding whollyCode
+returns-2 c = rw (ne-eqb _ _ (c .if1 .left))
 
 pub wholly-spec : {M : Type 1} → statement M
 wholly-spec = tie.close (tie.spec returns add-result returns-2)
