@@ -1,20 +1,20 @@
 -- The marks of the records beneath a term, as one loop downward sets them: a record's parts stand below it. Assumes nothing.
 use mathlib.Core.Path.{_≡_, refl, sym, _∙_, subst}
 use mathlib.Core.Logic.{⊎-elim}
-use mathlib.Core.Bool.{Bool, true, false, cond, false≢true}
+use mathlib.Core.Bool.{Bool, true, false, cond, not, false≢true}
 use mathlib.Core.List.{List}
 use Prim.Native.Nat.{ℕ, _+_, _<_, _≤_}
 use native.Mathlib.Omega.{arith}
 use lib.Dec.{ltb, eqb}
 use lib.ListN.{length, getD, set, length-set}
 use lib.Seq.{getD-set-same, getD-set-other}
-use borrow.Author.Tests.{eqb-true, eqb-false, ltb-true, ltb-false}
+use borrow.Author.Tests.{eqb-true, eqb-false, ltb-true, ltb-false, not-false}
 use Rattle.model.specs.declared.{Record.Record}
 use Rattle.model.specs.declared.CompoundTerm.the-variants.{Joined, Dual}
 use Rattle.model.specs.declared.Record.the-variants.{Base, Compound, Unknown}
 use Rattle.model.specs.Record.{recordAt}
-use Rattle.laws.specs.Bools.{on-or-off}
-use Rattle.ranks.specs.Beneath.{OfRecord, PartsLow, MarkedFrom, recordMarked}
+use Rattle.laws.specs.Bools.{on-or-off, off}
+use Rattle.ranks.specs.Beneath.{OfRecord, PartsLow, Telling, MarkedFrom, recordMarked}
 
 -- What is weaker holds of the parts too.
 of-record : {P Q : ℕ → Type 0} → ((p : ℕ) → P p → Q p) → (r : Record) → OfRecord P r → OfRecord Q r
@@ -82,24 +82,37 @@ added k Unknown marks l h = record { size = refl; kept = λ i g. refl; grown = �
 
 -- ---- from the term downward
 
--- The term alone is marked.
-pub marked-term : (table : List ℕ) (term : ℕ) (marks : List Bool) → length marks ≡ 128 → term < 128
-    → MarkedFrom table term (term + 1) (set marks term true)
-marked-term table term marks l h =
+-- The records that tell are marked.
+pub marked-start : (table : List ℕ) (term : ℕ) (exits : List ℕ) (marks : List Bool) → Telling exits 128 marks
+    → MarkedFrom table term (term + 1) exits marks
+marked-start table term exits marks t =
+    record { room = t .room; telling = t .each; parts = λ k c m n h e. absurd (omega arith) }
+
+-- One record more.
+pub telling-more : (exits : List ℕ) (k : ℕ) (marks : List Bool) → k < 128 → Telling exits k marks
+    → Telling exits (k + 1) (set marks k (not (eqb (getD exits k 0) 0)))
+telling-more exits k marks l t =
     record {
-      room = length-set marks term true ∙ l;
-      asked = getD-set-same marks term true false (rw l h);
-      parts = λ k c m n t e. absurd (omega arith);
+      room = length-set marks k (not (eqb (getD exits k 0) 0)) ∙ t .room;
+      each = λ h b off.
+          ⊎-elim
+          (λ e. let s : h ≡ k = eqb-true h k e in
+          eqb-true (getD exits h 0) 0
+          (not-false (eqb (getD exits h 0) 0)
+          (rw s (sym (getD-set-same marks k (not (eqb (getD exits k 0) 0)) false (rw (t .room) l)) ∙ rw s at off))))
+          (λ e. t .each h (omega (arith, b, eqb-false h k e))
+          (sym (getD-set-other marks k h (not (eqb (getD exits k 0) 0)) false (eqb-false h k e)) ∙ off))
+          (on-or-off (eqb h k));
     }
 
 module _ (table : List ℕ) (term k : ℕ) (below : k ≤ term) (few : term < 128) (low : PartsLow table term)
-    (marks : List Bool) (from : MarkedFrom table term (k + 1) marks) where
+    (exits : List ℕ) (marks : List Bool) (from : MarkedFrom table term (k + 1) exits marks) where
   -- An unmarked record leaves the marks as they are,
-  same : getD marks k false ≡ false → MarkedFrom table term k marks
+  same : getD marks k false ≡ false → MarkedFrom table term k exits marks
   same off =
       record {
         room = from .room;
-        asked = from .asked;
+        telling = from .telling;
         parts = λ h c l m t e.
             ⊎-elim
             (λ q. from .parts h c (omega (arith, ltb-true k h q)) m t e)
@@ -108,11 +121,11 @@ module _ (table : List ℕ) (term k : ℕ) (below : k ≤ term) (few : term < 12
       }
 
   -- and the parts of a marked one are marked too.
-  more : (after : List Bool) → Added k (recordAt table k) marks after → MarkedFrom table term k after
+  more : (after : List Bool) → Added k (recordAt table k) marks after → MarkedFrom table term k exits after
   more after a =
       record {
         room = a .size ∙ from .room;
-        asked = a .kept term below ∙ from .asked;
+        telling = λ h l off. from .telling h l (unmarked h off);
         parts = λ h c l m t e.
             ⊎-elim
             (λ q. of-record {P = λ p. getD marks p false ≡ true} {Q = λ p. getD after p false ≡ true} (a .grown) (Compound c)
@@ -121,16 +134,19 @@ module _ (table : List ℕ) (term k : ℕ) (below : k ≤ term) (few : term < 12
             subst (λ (r : Record). OfRecord (λ p. getD after p false ≡ true) r) (rw s at e) (a .parts))
             (on-or-off (ltb k h));
       }
+    where
+      unmarked : (h : ℕ) → getD after h false ≡ false → getD marks h false ≡ false
+      unmarked h gone = off (getD marks h false) (λ on. false≢true (sym gone ∙ a .grown h on))
 
   -- The loop's step.
-  pub marked-more : MarkedFrom table term k (cond (getD marks k false) (recordMarked (recordAt table k) marks) marks)
+  pub marked-more : MarkedFrom table term k exits (cond (getD marks k false) (recordMarked (recordAt table k) marks) marks)
   marked-more = go (getD marks k false) refl
     where
       parts : OfRecord (λ p. p < k) (recordAt table k)
       parts = parts-of table k (record { each = λ h c l e. low .each h c (omega arith) e }) (recordAt table k) refl
 
       go : (t : Bool) → getD marks k false ≡ t
-          → MarkedFrom table term k (cond t (recordMarked (recordAt table k) marks) marks)
+          → MarkedFrom table term k exits (cond t (recordMarked (recordAt table k) marks) marks)
       go true h =
           more (recordMarked (recordAt table k) marks)
           (added k (recordAt table k) marks (rw (from .room) (omega arith)) parts)

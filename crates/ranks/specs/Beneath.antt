@@ -1,4 +1,4 @@
--- The records beneath a term (document 01, "Perfect": "beneath the asked term (itself if it is a base term)").
+-- The records whose codes a comparison needs: those that tell of the asked term, and all beneath them.
 use mathlib.Core.Path.{_≡_}
 use mathlib.Core.Bool.{Bool, true, false}
 use mathlib.Core.List.{List}
@@ -28,11 +28,16 @@ OfRecord P Unknown = Unit {0}
 pub record PartsLow (table : List ℕ) (term : ℕ) : Type 0 where
   pub each : (k : ℕ) (c : CompoundTerm) → k ≤ term → recordAt table k ≡ Compound c → OfParts (λ p. p < k) c
 
+-- Each record below m that tells of the asked term, by its mask (crate `exits`), is marked.
+pub record Telling (exits : List ℕ) (m : ℕ) (marks : List Bool) : Type 0 where
+  pub room : length marks ≡ 128
+  pub each : (k : ℕ) → k < m → getD marks k false ≡ false → getD exits k 0 ≡ 0
+
 -- Each record that tells of the asked term, by its mask (crate `exits`), is marked, and so are the parts of each marked compound
 -- from record m up to the term.
 pub record MarkedFrom (table : List ℕ) (term m : ℕ) (exits : List ℕ) (marks : List Bool) : Type 0 where
   pub room : length marks ≡ 128
-  pub telling : (k : ℕ) → getD marks k false ≡ false → getD exits k 0 ≡ 0
+  pub telling : (k : ℕ) → k < 128 → getD marks k false ≡ false → getD exits k 0 ≡ 0
   pub parts : (k : ℕ) (c : CompoundTerm) → m ≤ k → k ≤ term → getD marks k false ≡ true → recordAt table k ≡ Compound c
       → OfParts (λ p. getD marks p false ≡ true) c
 

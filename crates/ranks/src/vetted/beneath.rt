@@ -1,4 +1,4 @@
-// Which records are beneath a term: itself, its parts, their parts.
+// Which records a comparison goes through: those that tell of the asked term, their parts, and the parts of these.
 use model::CompoundTerm;
 use model::Record;
 use values::vetted::lookup::decoded;
@@ -8,21 +8,33 @@ ghost use Prim.Native.Nat.{_<_};
 ghost use lib.ListN.{getD};
 ghost use Rattle.model.specs.Record.{recordAt};
 ghost use Rattle.values.specs.Prepared.{Numbers};
-ghost use Rattle.ranks.specs.Beneath.{OfParts, OfRecord, PartsLow, Marked, partsMarked, recordMarked};
+ghost use Rattle.ranks.specs.Beneath.{Telling, OfParts, OfRecord, PartsLow, Marked, partsMarked, recordMarked};
 
-// Marks the records beneath the term, downward from it.
-pub fn beneath(table: &[u8], numbers: &[i32; 256], term: u8) -> [bool; 128]
+// Marks the records that tell of the asked term by their masks, and all beneath them, downward from the term.
+pub fn beneath(table: &[u8], numbers: &[i32; 256], exits: &[u8; 128], term: u8) -> [bool; 128]
     requires { ⌜ (term < 128) × Numbers (now table) (now numbers) × PartsLow (now table) term ⌝ }
-    ensures { λ r. ⌜ Marked (now (table .entry)) term r ⌝ }
+    ensures { λ r. ⌜ Marked (now (table .entry)) term (now (exits .entry)) r ⌝ }
 {
-    let mut marks = [false; 128];
-    let top = term as usize;
-    marks[top] = true;
+    let first = telling(exits);
+    let mut marks = first;
     let mut k = term + 1;
     while k > 0 {
         k -= 1;
         let next = with_parts(table, numbers, k, marks);
         marks = next;
+    }
+    marks
+}
+
+// Marks the records whose mask is not 0.
+fn telling(exits: &[u8; 128]) -> [bool; 128]
+    ensures { λ r. ⌜ Telling (now (exits .entry)) 128 r ⌝ }
+{
+    let mut marks = [false; 128];
+    let mut i = 0usize;
+    while i < 128 {
+        marks[i] = exits[i] != 0;
+        i += 1;
     }
     marks
 }

@@ -1,32 +1,30 @@
 -- `ranks::vetted::beneath::beneath` meets its contract. Assumes nothing.
-use mathlib.Core.Path.{_≡_, refl}
-use mathlib.Core.Bool.{false}
+use mathlib.Core.Path.{_≡_}
 use Prim.Native.Nat.{_+_, _-_, _≤_}
 use native.Mathlib.Omega.{arith}
-use lib.ListN.{replicate}
 use denote.Ref.{now}
 use borrow.Author.Needs.{needs}
 use Rattle.ranks.specs.Beneath.{MarkedFrom}
-use Rattle.ranks.proofs.Beneath.{marked-term, marked-more}
+use Rattle.ranks.proofs.Beneath.{marked-start, marked-more}
 use Rattle.ranks.proofs.vetted.beneath.beneath.Statement.{statement}
 use Rattle.ranks.proofs.vetted.beneath.beneath.Tie as tie
 
 abbrev Inv-loop : tie.InvT-loop
-Inv-loop table numbers term marks₀ top k₀ marks k = (k ≤ term + 1) × MarkedFrom table term k marks
+Inv-loop table numbers exits term first k₀ marks k = (k ≤ term + 1) × MarkedFrom table term k exits marks
 
 abbrev μ-loop : tie.MeasureT-loop
-μ-loop table numbers term marks₀ top k₀ marks k = k
+μ-loop table numbers exits term first k₀ marks k = k
 
-array-write-marks : tie.Need-array-write-marks Inv-loop μ-loop
-array-write-marks c = search needs
+telling-requires : tie.Need-telling-requires Inv-loop μ-loop
+telling-requires c κs = search needs
 
 add-k : tie.Need-add-k Inv-loop μ-loop
 add-k c = search needs
 
 loop-holds : tie.Need-loop-holds Inv-loop μ-loop
 loop-holds c =
-    let s = c .before in
-    (omega arith, marked-term (now (s .args .table)) (s .args .term) (replicate 128 false) refl (s .pre .0))
+    let s = c .before .before in
+    (omega arith, marked-start (now (s .args .table)) (s .args .term) (now (s .args .exits)) (c .telling .result) (c .telling .ensures))
 
 sub-k : tie.Need-sub-k Inv-loop μ-loop
 sub-k c = search needs
@@ -34,7 +32,7 @@ sub-k c = search needs
 with-parts-requires : tie.Need-with-parts-requires Inv-loop μ-loop
 with-parts-requires c κs =
     let l = c .before in
-    let s = l .before .before in
+    let s = l .before .before .before in
     (omega (arith, s .pre .0), s .pre .1, record { each = λ h d g e. s .pre .2 .each h d (omega arith) e })
 
 loop-less : tie.Need-loop-less Inv-loop μ-loop
@@ -43,11 +41,11 @@ loop-less c = search needs
 loop-again : tie.Need-loop-again Inv-loop μ-loop
 loop-again c =
     let l = c .before .before in
-    let s = l .before .before in
+    let s = l .before .before .before in
     let a = s .args in
     let back : l .loop .k - 1 + 1 ≡ l .loop .k = omega arith in
     let next =
-    marked-more (now (a .table)) (a .term) (l .loop .k - 1) (omega arith) (s .pre .0) (s .pre .2) (l .loop .marks)
+    marked-more (now (a .table)) (a .term) (l .loop .k - 1) (omega arith) (s .pre .0) (s .pre .2) (now (a .exits)) (l .loop .marks)
     (rw back (l .loop .inv .1)) in
     (omega arith, rw (c .with-parts .ensures) next)
 
@@ -60,7 +58,7 @@ beneath-spec =
     (tie.spec
     Inv-loop
     μ-loop
-    array-write-marks
+    telling-requires
     add-k
     loop-holds
     sub-k
