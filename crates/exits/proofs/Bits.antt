@@ -2,6 +2,7 @@
 use mathlib.Core.Path.{_≡_, refl, sym, _∙_}
 use mathlib.Core.Bool.{Bool, true, false, false≢true, not, _&&_, _||_}
 use Prim.Native.Nat.{ℕ, _+_, _%_, _<_}
+use native.Mathlib.Omega.{arith}
 use lib.Bits.{bitOr}
 use lib.Dec.{eqb, ltb}
 use borrow.Author.Tests.{ltb-true}
@@ -107,3 +108,44 @@ masks-low m l = all-1 8 (λ m. ltb (turnedMask m) 8 && ltb (partMask m) 8) refl 
 pub turned-low : (c : ℕ) → c < 4 → turnedCode c < 4
 unfolding turnedCode anyBelow
 turned-low c l = ltb-true (turnedCode c) 4 (all-1 4 (λ c. ltb (turnedCode c) 4) refl c l)
+
+-- ---- two things told
+
+-- What is told is below 8.
+pub told-low : (m c : ℕ) → m < 8 → c < 4 → toldCode m c < 8
+unfolding toldCode whollyCode turnedCode anyBelow
+told-low m c l k = ltb-true (toldCode m c) 8 (all-2 8 4 (λ m c. ltb (toldCode m c) 8) refl m c l k)
+
+-- Together they are true,
+pub both-hold : (a b o : ℕ) → a < 8 → b < 8 → o < 4 → implies (holds a o && holds b o) (holds (bitOr a b) o) ≡ true
+unfolding holds within implies anyBelow
+both-hold a b o l k h = all-3 8 8 4 (λ a b o. implies (holds a o && holds b o) (holds (bitOr a b) o)) refl a b o l k h
+
+pub both-low : (a b : ℕ) → a < 8 → b < 8 → bitOr a b < 8
+unfolding anyBelow
+both-low a b l k = ltb-true (bitOr a b) 8 (all-2 8 8 (λ a b. ltb (bitOr a b) 8) refl a b l k)
+
+-- and have the bits of either.
+pub left-bits : (c a b : ℕ) → c < 4 → a < 8 → b < 8 → implies (within c (bits a)) (within c (bits (bitOr a b))) ≡ true
+unfolding within bits implies anyBelow
+left-bits c a b l k h = all-3 4 8 8 (λ c a b. implies (within c (bits a)) (within c (bits (bitOr a b)))) refl c a b l k h
+
+pub right-bits : (a b : ℕ) → a < 8 → b < 8 → within (bits b) (bits (bitOr a b)) ≡ true
+unfolding within bits anyBelow
+right-bits a b l k = all-2 8 8 (λ a b. within (bits b) (bits (bitOr a b))) refl a b l k
+
+-- ---- when it is the whole code
+
+-- From 3 on,
+pub stop-bits : (w o : ℕ) → w < 8 → o < 4 → implies (holds w o && not (ltb w 3)) (eqb (bits w) o) ≡ true
+unfolding holds within bits implies anyBelow
+stop-bits w o l k = all-2 8 4 (λ w o. implies (holds w o && not (ltb w 3)) (eqb (bits w) o)) refl w o l k
+
+-- and where the code has no bits but those.
+pub all-bits : (w o : ℕ) → w < 8 → o < 4 → implies (holds w o && within o (bits w)) (eqb (bits w) o) ≡ true
+unfolding holds within bits implies anyBelow
+all-bits w o l k = all-2 8 4 (λ w o. implies (holds w o && within o (bits w)) (eqb (bits w) o)) refl w o l k
+
+pub bits-low : (w : ℕ) → bits w < 4
+unfolding bits
+bits-low w = omega arith
