@@ -19,8 +19,7 @@ use Rattle.laws.specs.Accepted.{Accepted}
 use Rattle.laws.specs.AcceptedTable.{accepted-table}
 use Rattle.values.specs.Prepared.{NextTerm}
 use Rattle.cells.specs.Places.{place-in}
-use Rattle.lanes.specs.Wrote.{Wrote}
-use Rattle.blocks.specs.Blocks.{Ready, AtRecord, Coded, AskedCoded, Decided, exitLane}
+use Rattle.blocks.specs.Blocks.{Ready, AtRecord, Coded}
 
 module _ {table : List ℕ} {marks : List Bool} {columns : ℕ} {rows : List ℤ} {n i b : ℕ} where
   -- Below record 0 there is none.
@@ -96,44 +95,15 @@ module _ {table : List ℕ} {numbers : List ℤ} {ends : List ℕ} {reach : List
     pub value-room : i / 64 * 512 + 512 ≤ length values
     value-room = ready .valueRoom .each (i / 64) (omega (arith, at .row))
 
-    -- Where record k decides the asked term in all lanes, the exits are its codes.
-    pub asked-by-exits : {old new : List ℕ} → isTerm (recordAt table k) ≡ true
-        → Coded table marks columns rows n i b (k + 1) old → Decided exits k old
-        → Wrote 0 (exitLane exits k old) (term * 64) 64 old new → AskedCoded table term columns rows n i b new
-    unfolding exitLane
-    asked-by-exits {old} is c d w =
-        record {
-          each = λ j small row.
-              w .made j small
-              ∙ sym (ready .exiting .each k (getD old (k * 64 + j) 0) record-below (d .low j small) (d .exit j small)
-              (rowAt columns rows i) (rowAt columns rows (b * 64 + j))
-              (sym (c .each k j (omega arith) (at .marked) is small row)));
-        }
-
-  -- The asked term is marked too.
-  pub asked-coded : {i b : ℕ} {codes : List ℕ} → Coded table marks columns rows n i b (term + 1) codes
-      → AskedCoded table term columns rows n i b codes
-  asked-coded c =
-      record { each = λ j small row. c .each term j (omega arith) (ready .marked .asked) (ready .taken .isRecord) small row }
-
   -- The first record is a term.
   pub first-term : isTerm (recordAt table 0) ≡ true
   first-term = accepted-table table columns ok .first
 
-  module _ {k : ℕ} (is : isTerm (recordAt table k) ≡ true) (before : k < term) where
+  module _ {k : ℕ} (is : isTerm (recordAt table k) ≡ true) (before : k ≤ term) where
     -- After term record k comes the next,
     pub next-term : NextTerm table k (recordCount table) (getD ends k 0)
     next-term = ready .runs .each k (omega (arith, before, ready .taken .below)) is .follows
 
-    -- which is not past the asked one,
-    pub next-most : getD ends k 0 ≤ term
-    next-most =
-        ⊎-elim
-        (λ b. absurd
-        (false≢true (sym (next-term .between term before (ltb-true term (getD ends k 0) b)) ∙ ready .taken .isRecord)))
-        (λ b. ltb-false term (getD ends k 0) b)
-        (on-or-off (ltb term (getD ends k 0)))
-
-    -- and a term record too.
-    pub next-is : isTerm (recordAt table (getD ends k 0)) ≡ true
-    next-is = next-term .ends (omega (arith, next-most, ready .taken .below))
+    -- which is a term record too, unless it is past the asked one.
+    pub next-is : getD ends k 0 ≤ term → isTerm (recordAt table (getD ends k 0)) ≡ true
+    next-is most = next-term .ends (omega (arith, most, ready .taken .below))

@@ -2,4 +2,4 @@ pub mod Lanes
 pub mod Coded
 pub mod OfBase
 pub mod OfCompound
-pub mod Early
+pub mod Known

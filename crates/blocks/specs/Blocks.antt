@@ -1,10 +1,9 @@
 -- What the engine by parts prepares once per query, and the codes of row i against the rows of block b. Row b * 64 + j is
 -- lane j of block b.
 use mathlib.Core.Path.{_≡_}
-use mathlib.Core.Bool.{Bool, true, false, _&&_, _||_}
+use mathlib.Core.Bool.{Bool, true, false}
 use mathlib.Core.List.{List}
 use Prim.Native.Nat.{ℕ, _+_, _*_, _<_, _≤_}
-use lib.Dec.{eqb}
 use lib.IntN.{ℤ}
 use lib.ListN.{getD, length}
 use Rattle.model.specs.declared.{CompoundTerm.CompoundTerm, Pair.Pair}
@@ -15,11 +14,12 @@ use Rattle.model.specs.Query.{rowAt}
 use Rattle.laws.specs.Codes.{code, joinedCode}
 use Rattle.laws.specs.Taken.{TakenTerm}
 use Rattle.values.specs.Prepared.{Numbers, RunEnds, Reached}
-use Rattle.exits.specs.Exits.{Exits, exitAt}
+use Rattle.exits.specs.Exits.{Exits}
+use Rattle.exits.specs.Known.{Known}
 use Rattle.cells.specs.Values.{Room, Valued}
 use Rattle.ranks.specs.Beneath.{Marked}
 use Rattle.ranks.specs.Ranked.{Ranked}
-use Rattle.lanes.specs.Wrote.{Wrote}
+use Rattle.known.specs.Lanes.{Told, Ended}
 use Rattle.lanes.specs.Lanes.{turnedLane}
 
 -- A query's table, rows, ranks and values. A block takes `stride` of the ranks.
@@ -29,7 +29,7 @@ pub record Ready (table : List ℕ) (numbers : List ℤ) (ends : List ℕ) (reac
   pub prepared : Numbers table numbers
   pub runs : RunEnds table ends
   pub reached : Reached table ends reach
-  pub marked : Marked table term marks
+  pub marked : Marked table term exits marks
   pub exiting : Exits table term exits
   pub run : length rows ≡ n * columns
   pub few : n ≤ 1024
@@ -52,35 +52,22 @@ pub record Coded (table : List ℕ) (marks : List Bool) (columns : ℕ) (rows : 
   pub each : (h j : ℕ) → h < k → getD marks h false ≡ true → isTerm (recordAt table h) ≡ true → j < 64 → b * 64 + j < n
       → getD codes (h * 64 + j) 0 ≡ code (termAt table h) (rowAt columns rows i) (rowAt columns rows (b * 64 + j))
 
--- The asked term's codes stand where its 64 go.
-pub record AskedCoded (table : List ℕ) (term columns : ℕ) (rows : List ℤ) (n i b : ℕ) (codes : List ℕ) : Type 0 where
-  pub each : (j : ℕ) → j < 64 → b * 64 + j < n
+-- What is known of the asked term's code from the records below k, in each lane that is lit.
+pub record KnownLanes (table : List ℕ) (term : ℕ) (exits : List ℕ) (columns : ℕ) (rows : List ℤ) (n i b k : ℕ)
+    (live known : List ℕ) : Type 0 where
+  pub each : (j : ℕ) → j < 64 → b * 64 + j < n → getD live j 0 ≡ 1
+      → Known table term exits (rowAt columns rows i) (rowAt columns rows (b * 64 + j)) k (getD known j 0)
+
+-- Record k, of mask m, has told, and r says that nothing can be added in any lane.
+pub record RecordTold (m : ℕ) (codes : List ℕ) (k : ℕ) (old new : List ℕ) (r : Bool) : Type 0 where
+  pub silent : m ≡ 0 → new ≡ old
+  pub told : (m ≡ 0 → ⊥) → Told m codes (k * 64) old new
+  pub ended : r ≡ true → Ended new 64
+
+-- The asked term's codes stand where its 64 go, in each lane that is lit.
+pub record AskedCoded (table : List ℕ) (term columns : ℕ) (rows : List ℤ) (n i b : ℕ) (live codes : List ℕ) : Type 0 where
+  pub each : (j : ℕ) → j < 64 → b * 64 + j < n → getD live j 0 ≡ 1
       → getD codes (term * 64 + j) 0 ≡ code (termAt table term) (rowAt columns rows i) (rowAt columns rows (b * 64 + j))
-
--- ---- exits: the codes of record k that decide the asked term
-
--- A code with an exit, where it is said which of the four codes have one.
-unfoldable pub laneDecided : ℕ → Bool → Bool → Bool → Bool → Bool
-laneDecided c same first second unranked =
-    (((eqb c 0 && same) || (eqb c 1 && first)) || (eqb c 2 && second)) || (eqb c 3 && unranked)
-
--- So in each of m lanes.
-pub record LanesDecided (codes : List ℕ) (from : ℕ) (same first second unranked : Bool) (m : ℕ) : Type 0 where
-  pub each : (j : ℕ) → j < m → laneDecided (getD codes (from + j) 0) same first second unranked ≡ true
-
--- In all 64 lanes record k's code has an exit.
-pub record Decided (exits : List ℕ) (k : ℕ) (codes : List ℕ) : Type 0 where
-  pub low : (j : ℕ) → j < 64 → getD codes (k * 64 + j) 0 < 4
-  pub exit : (j : ℕ) → j < 64 → exitAt exits k (getD codes (k * 64 + j) 0) < 4
-
--- The exit in lane j.
-unfoldable pub exitLane : List ℕ → ℕ → List ℕ → ℕ → ℕ
-exitLane exits k codes j = exitAt exits k (getD codes (k * 64 + j) 0)
-
--- Where record k decides the asked term in all lanes, the asked term's codes are the exits; else nothing is written.
-pub record ByExits (exits : List ℕ) (k term : ℕ) (old new : List ℕ) (r : Bool) : Type 0 where
-  pub yes : r ≡ true → Decided exits k old × Wrote 0 (exitLane exits k old) (term * 64) 64 old new
-  pub no : r ≡ false → new ≡ old
 
 -- ---- compounds
 

@@ -1,7 +1,10 @@
 // The codes of row i against the rows of block b under each record beneath the asked term, upward. A base record's come from
 // ranks and values, a compound's from its parts' codes and nothing else. No public calls: each asks what was prepared before.
 use crate::vetted::base::base_codes;
-use crate::vetted::early::by_exits;
+use known::vetted::all_known;
+use known::vetted::put_known;
+use known::vetted::start_known;
+use known::vetted::tell_lanes;
 use lanes::vetted::compound::or_lanes;
 use lanes::vetted::compound::prior_lanes;
 use lanes::vetted::compound::turned_lanes;
@@ -13,19 +16,18 @@ ghost use Prim.Native.Nat.{_+_, _*_, _<_, _≤_};
 ghost use lib.ListN.{length};
 ghost use Rattle.lanes.specs.Wrote.{Wrote};
 ghost use Rattle.ranks.specs.Beneath.{OfParts};
-ghost use Rattle.blocks.specs.Blocks.{Ready, AtRecord, Coded, AskedCoded, joinedLane, compoundLane};
+ghost use Rattle.blocks.specs.Blocks.{Ready, AtRecord, Coded, RecordTold, AskedCoded, joinedLane, compoundLane};
 
 mod base;
-mod early;
 
-// The asked term's codes, from those of the records up to it, or from the first that decides it in all lanes.
+// The asked term's codes in the lanes that are lit, from what the records up to it tell.
 pub fn block_codes(
     table: &[u8],
     numbers: &[i32; 256],
     ends: &[u8; 128],
     reach: &[[bool; 32]; 256],
     marks: &[bool; 128],
-    exits: &[u8; 512],
+    exits: &[u8; 128],
     term: u8,
     columns: usize,
     rows: &[i32],
@@ -35,13 +37,16 @@ pub fn block_codes(
     values: &[i32],
     i: usize,
     b: usize,
+    live: &[u8],
     codes: &mut [u8],
 )
-    requires { ⌜ Ready (now table) (now numbers) (now ends) (now reach) (now marks) (now exits) term columns (now rows) n stride (now ranks) (now values) × (i < n) × (b * 64 < n) × (8192 ≤ length (now codes)) ⌝ }
-    ensures { λ _. ⌜ AskedCoded (now (table .entry)) term columns (now (rows .entry)) n i b (now (codes .exit)) ⌝ }
+    requires { ⌜ Ready (now table) (now numbers) (now ends) (now reach) (now marks) (now exits) term columns (now rows) n stride (now ranks) (now values) × (i < n) × (b * 64 < n) × (64 ≤ length (now live)) × (8192 ≤ length (now codes)) ⌝ }
+    ensures { λ _. ⌜ AskedCoded (now (table .entry)) term columns (now (rows .entry)) n i b (now (live .entry)) (now (codes .exit)) ⌝ }
 {
+    let mut known = [0u8; 64];
+    start_known(live, &mut known);
     let mut k = 0u8;
-    while k < term {
+    while k <= term {
         let at = k as usize;
         if marks[at] {
             record_codes(
@@ -63,31 +68,34 @@ pub fn block_codes(
                 k,
                 codes,
             );
-            if by_exits(exits, k, term, codes) {
+            if tell(exits[at], codes, k, term, &mut known) {
+                put_known(&known, codes, (term as usize) * 64);
                 return;
             }
         }
         k = ends[at];
     }
-    record_codes(
-        table,
-        numbers,
-        ends,
-        reach,
-        marks,
-        exits,
-        term,
-        columns,
-        rows,
-        n,
-        stride,
-        ranks,
-        values,
-        i,
-        b,
-        term,
-        codes,
-    );
+    put_known(&known, codes, (term as usize) * 64);
+}
+
+// Record k, of mask m, tells. Says whether nothing can be added in any lane; it looks only where that is likely to pay.
+fn tell(m: u8, codes: &[u8], k: u8, term: u8, known: &mut [u8]) -> bool
+    requires { ⌜ (m < 8) × (k < 128) × (k * 64 + 64 ≤ length (now codes)) × (64 ≤ length (now known)) ⌝ }
+    ensures { λ r. ⌜ RecordTold m (now (codes .entry)) k (now (known .entry)) (now (known .exit)) r ⌝ }
+{
+    if m == 0 {
+        return false;
+    }
+    tell_lanes(m, codes, (k as usize) * 64, known);
+    if pays(m, k, term) {
+        return all_known(known);
+    }
+    false
+}
+
+// Whether a block may well end at record k: at the left part of a PRIOR, or where some records are left.
+fn pays(m: u8, k: u8, term: u8) -> bool {
+    (4 <= m) | ((k as usize) + 4 <= (term as usize))
 }
 
 // The codes of record k, from those of the records below.
@@ -97,7 +105,7 @@ fn record_codes(
     ends: &[u8; 128],
     reach: &[[bool; 32]; 256],
     marks: &[bool; 128],
-    exits: &[u8; 512],
+    exits: &[u8; 128],
     term: u8,
     columns: usize,
     rows: &[i32],

@@ -7,11 +7,11 @@ use Prim.Native.Nat.{ℕ, _+_, _<_, _≤_}
 use native.Mathlib.Omega.{arith}
 use lib.Bits.{bitOr}
 use lib.Dec.{eqb, ltb}
-use borrow.Author.Tests.{eqb-true, le-ltb}
+use borrow.Author.Tests.{eqb-true, le-ltb, ltb-true, ltb-false}
 use Rattle.model.specs.Term.{termAt}
 use Rattle.model.specs.Better.{Row}
 use Rattle.model.specs.Compare.{outcome}
-use Rattle.laws.specs.Bools.{and-i}
+use Rattle.laws.specs.Bools.{and-i, on-or-off}
 use Rattle.laws.specs.Search.{lt-suc-cases}
 use Rattle.laws.specs.Codes.{code, code-below}
 use Rattle.exits.specs.Exits.{toldCode, bits, within, holds, maskAt, tellsAt, Exits}
@@ -84,3 +84,16 @@ module _ {table : List ℕ} {term : ℕ} {exits : List ℕ} (e : Exits table ter
         eqb-true (bits known) o
         (implied (holds known o && within o (bits known)) (eqb (bits known) o) (all-bits known o (now .few) o-low)
         (and-i (now .true-of) (e .whole x y (bits known) (bits-low known) (λ h b. now .told h (omega (arith, b, l))))))
+
+  -- Records of mask 0 add nothing, however many.
+  pub known-on : {k next known : ℕ} → Known table term exits x y (k + 1) known
+      → ((h : ℕ) → k < h → h < next → maskAt exits h ≡ 0) → Known table term exits x y next known
+  known-on {k} {next} {known} now quiet =
+      record {
+        few = now .few;
+        true-of = now .true-of;
+        told = λ h l. ⊎-elim
+            (λ b. now .told h (ltb-true h (k + 1) b))
+            (λ b. rw (silent h (quiet h (omega (arith, ltb-false h (k + 1) b)) l)) (none-within (bits known) (bits-low known)))
+            (on-or-off (ltb h (k + 1)));
+      }
