@@ -13,6 +13,8 @@ use Rattle.model.specs.Search.{anyBelow}
 use Rattle.model.specs.Term.{Term, termAt}
 use Rattle.model.specs.Better.{Row, equalIn}
 use Rattle.model.specs.Query.{rowAt, beatsIn}
+use borrow.Author.Tests.{eqb-true}
+use Rattle.laws.specs.Bools.{on-or-off}
 use Rattle.laws.specs.Search.{none-e}
 use Rattle.laws.specs.Members.{and-off}
 use Rattle.laws.specs.Order.{Rel, Strict}
@@ -72,13 +74,20 @@ module _ (t : Term) (s : sound t ≡ true) (w : within 8 t ≡ true) (columns : 
 
   -- A lit lane's code says which of the two rows is better.
   module _ (codes : List ℕ) (top : ℕ)
-      (coded : (j : ℕ) → j < 64 → b * 64 + j < n → getD codes (top + j) 0 ≡ code t (row i) (row (b * 64 + j))) where
+      (coded : (j : ℕ) → j < 64 → b * 64 + j < n → getD live j 0 ≡ 1
+      → getD codes (top + j) 0 ≡ code t (row i) (row (b * 64 + j))) where
     hit-parts : (c j : ℕ) → j < 64 → b * 64 + j < n
         → hit live codes top c j
         ≡ (pass j && (equalIn group (row i) (row (b * 64 + j)) && eqb (code t (row i) (row (b * 64 + j))) c))
-    unfolding hit
+    unfolding hit lit
     hit-parts c j l h =
-        rw (alive .on j l h, coded j l h) (and-assoc (pass j) (equalIn group (row i) (row (b * 64 + j))) _)
+        let same = equalIn group (row i) (row (b * 64 + j)) in
+        let is = eqb (code t (row i) (row (b * 64 + j))) c in
+        ⊎-elim
+        (λ on. rw (alive .on j l h, coded j l h (eqb-true (getD live j 0) 1 on)) (and-assoc (pass j) same is))
+        (λ off. rw off
+        (sym (sym (and-assoc (pass j) same is) ∙ ap (λ (x : Bool). x && is) (sym (alive .on j l h) ∙ off))))
+        (on-or-off (eqb (getD live j 0) 1))
 
     hit-off : (c j : ℕ) → j < 64 → n ≤ b * 64 + j → hit live codes top c j ≡ false
     unfolding hit
@@ -132,7 +141,7 @@ module _ {table : List ℕ} {numbers : List ℤ} {ends : List ℕ} {reach : List
         let s = taken-sound table columns term (ready .taken) in
         dark (termAt table term) (s .0) (s .1) columns rows group n i b pass live alive e
 
-    pub ready-hits : {codes : List ℕ} → AskedCoded table term columns rows n i b codes
+    pub ready-hits : {codes : List ℕ} → AskedCoded table term columns rows n i b live codes
         → Hits (beatsIn (termAt table term) columns rows group) n i (b * 64) pass live codes (term * 64)
     ready-hits {codes} coded =
         let s = taken-sound table columns term (ready .taken) in

@@ -22,8 +22,13 @@ slice-aggregate-any-lit c = search needs
 any-lit-requires : tie.Need-any-lit-requires
 any-lit-requires c κs = search needs
 
+slice-aggregate-block-codes : tie.Need-slice-aggregate-block-codes
+slice-aggregate-block-codes c = search needs
+
 block-codes-requires : tie.Need-block-codes-requires
-block-codes-requires c κs = search needs
+block-codes-requires c κs =
+    let p = c .before .before .before .before .before .before .before .before .before .before .before .before .pre in
+    (p .0, p .1, p .2, rw (c .before .before .before .before .before .live2 .given) (omega arith), p .4)
 
 mul-top : tie.Need-mul-top
 mul-top c = search needs
@@ -37,7 +42,7 @@ slice-aggregate-gone-lanes c = search needs
 gone-lanes-requires : tie.Need-gone-lanes-requires
 gone-lanes-requires c κs =
     let k = c .before .before .before .before .before in
-    let f = k .before .before .before .before .before .before in
+    let f = k .before .before .before .before .before .before .before in
     let p = f .before .before .before .before .before .before .pre in
     (omega (arith, p .0 .few, p .2, p .3), search needs, omega (arith, asked-below (p .0), p .4))
 
@@ -47,7 +52,7 @@ slice-aggregate-any-hit c = search needs
 any-hit-requires : tie.Need-any-hit-requires
 any-hit-requires c κs =
     let p = c .before .before .before .before .before .before .before .before .before .before
-    .before .before .before .before .before .before .before .before .before .before .before .before .pre in
+    .before .before .before .before .before .before .before .before .before .before .before .before .before .pre in
     (search needs, omega (arith, asked-below (p .0), p .4))
 
 same-length : tie.Need-same-length
@@ -60,7 +65,7 @@ returns : tie.Need-returns
 returns c =
     let x = c .before .before .before .before .before in
     let k = x .before .before .before .before .before .before in
-    let f = k .before .before .before .before .before .before in
+    let f = k .before .before .before .before .before .before .before in
     let p = f .before .before .before .before .before .before .pre in
     let h = ready-hits (p .0) (f .free-alive .ensures) (k .block-codes .ensures) in (
       meets-some _ _ _ _ _ (p .1) (p .6) _ _ _ _ h (x .gone-lanes .ensures) (c .any-hit .ensures),
@@ -86,6 +91,7 @@ meet-block-spec =
     free-alive-requires
     slice-aggregate-any-lit
     any-lit-requires
+    slice-aggregate-block-codes
     block-codes-requires
     mul-top
     mul-gone-lanes
