@@ -21,8 +21,13 @@ slice-aggregate-any-lit c = search needs
 any-lit-requires : tie.Need-any-lit-requires
 any-lit-requires c κs = search needs
 
+slice-aggregate-block-codes : tie.Need-slice-aggregate-block-codes
+slice-aggregate-block-codes c = search needs
+
 block-codes-requires : tie.Need-block-codes-requires
-block-codes-requires c κs = search needs
+block-codes-requires c κs =
+    let p = c .before .before .before .before .before .before .before .before .before .before .before .before .before .pre in
+    (p .0, p .1, p .2, rw (c .before .before .before .before .before .live2 .given) (omega arith), p .5)
 
 mul-top : tie.Need-mul-top
 mul-top c = search needs
@@ -36,14 +41,14 @@ slice-aggregate-name-lanes c = search needs
 cast-name-lanes : tie.Need-cast-name-lanes
 cast-name-lanes c =
     let k = c .before .before .before .before .before in
-    let f = k .before .before .before .before .before .before in
+    let f = k .before .before .before .before .before .before .before in
     let p = f .before .before .before .before .before .before .before .pre in
     omega (arith, p .0 .few, p .1)
 
 name-lanes-requires : tie.Need-name-lanes-requires
 name-lanes-requires c κs =
     let k = c .before .before .before .before .before in
-    let f = k .before .before .before .before .before .before in
+    let f = k .before .before .before .before .before .before .before in
     let p = f .before .before .before .before .before .before .before .pre in
     (omega (arith, p .0 .few, p .2, p .4), search needs, omega (arith, asked-below (p .0), p .5))
 
@@ -57,7 +62,7 @@ returns : tie.Need-returns
 returns c =
     let x = c .before .before in
     let k = x .before .before .before .before .before .before in
-    let f = k .before .before .before .before .before .before in
+    let f = k .before .before .before .before .before .before .before in
     let p = f .before .before .before .before .before .before .before .pre in
     let h = ready-hits (p .0) (f .pending-alive .ensures) (k .block-codes .ensures) in
     let q = kept-of _ _ _ _ (p .6) (p .1) (p .7) in
@@ -86,6 +91,7 @@ name-block-spec =
     pending-alive-requires
     slice-aggregate-any-lit
     any-lit-requires
+    slice-aggregate-block-codes
     block-codes-requires
     mul-top
     mul-name-lanes
