@@ -204,12 +204,13 @@ fn prepared(
     let a = numbers(table);
     let e = run_ends(table);
     let g = closures(table, &e);
-    let marks = beneath(table, &a, term);
     let x = exits(table, &a, term);
+    let marks = beneath(table, &a, &x, term);
+    let o = ops(table, &a, term);
     fill_ranks(table, &a, &e, &marks, term, columns, rows, n, stride, ranks);
     by_pairs(
         table,
-        &a,
+        &o,
         &e,
         &g,
         &marks,
@@ -228,11 +229,11 @@ fn prepared(
 // Which rows are gone, and by which; then the kept rows and the answers.
 fn by_pairs(
     table: &[u8],
-    numbers: &[i32; 256],
+    ops: &[u8; 512],
     ends: &[u8; 128],
     reach: &[[bool; 32]; 256],
     marks: &[bool; 128],
-    exits: &[u8; 512],
+    exits: &[u8; 128],
     term: u8,
     group: u8,
     columns: usize,
@@ -242,7 +243,7 @@ fn by_pairs(
     ranks: &[i32],
     answers: &mut [u16],
 ) -> u16
-    requires { ⌜ Comparable (now table) (now numbers) (now ends) (now reach) (now marks) (now exits) term columns (now rows) n stride
+    requires { ⌜ Comparable (now table) (now ops) (now ends) (now reach) (now marks) (now exits) term columns (now rows) n stride
         (now ranks) × (n ≤ length (now answers)) ⌝ }
     ensures { λ r. ⌜ Selected (beatsIn (termAt (now (table .entry)) term) columns (now (rows .entry)) group) n
         (now (answers .entry)) (now (answers .exit)) r ⌝ }
@@ -250,9 +251,11 @@ fn by_pairs(
     let mut gone = [0u8; 1024];
     let mut by = [0u16; 1024];
     let mut codes = [0u8; 128];
+    let mut keys = [0u8; 1024];
+    fill_keys(group, columns, rows, n, &mut keys);
     eliminate(
         table,
-        numbers,
+        ops,
         ends,
         reach,
         marks,
@@ -264,6 +267,7 @@ fn by_pairs(
         n,
         stride,
         ranks,
+        &keys,
         &mut gone,
         &mut by,
         &mut codes,
@@ -272,7 +276,7 @@ fn by_pairs(
     let m = list_kept(n, &gone, &mut kept);
     write_answers(
         table,
-        numbers,
+        ops,
         ends,
         reach,
         marks,
