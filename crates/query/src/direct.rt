@@ -1,6 +1,8 @@
 // The direct engine: rows are compared pair by pair, by ranks that are found once per query; a row that is gone is not
 // compared again, and a dropped row's witness comes from the list of kept rows.
+use cells::vetted::keys::fill_keys;
 use exits::vetted::exits;
+use ops::vetted::ops;
 use pairwise::vetted::meetings::eliminate;
 use ranks::vetted::beneath::beneath;
 use ranks::vetted::fill::fill_ranks;
@@ -184,7 +186,7 @@ fn in_131072_ranks(
     )
 }
 
-// Prepares the table's values, the marks beneath the term, where a comparison may stop, and the rows' ranks.
+// Prepares the table's values, what each record tells of the term and what it does, the marks, and the rows' ranks.
 fn prepared(
     table: &[u8],
     columns: usize,
