@@ -1,5 +1,4 @@
--- From one term record to the next: the codes of the records below it stand, and the asked term is not passed. Assumes
--- nothing.
+-- From one term record to the next: the codes of the records below it stand, and what they tell is known. Assumes nothing.
 use mathlib.Core.Path.{_≡_, refl, sym, _∙_}
 use mathlib.Core.Logic.{⊎-elim}
 use mathlib.Core.Bool.{Bool, true, false, false≢true}
@@ -19,6 +18,9 @@ use Rattle.laws.specs.Search.{lt-suc-cases}
 use Rattle.laws.specs.Codes.{code}
 use Rattle.laws.specs.AcceptedTable.{accepted-table}
 use Rattle.values.specs.Prepared.{NextTerm}
+use Rattle.exits.specs.Exits.{Exits, tellsAt, toldCode, bits}
+use Rattle.exits.specs.Known.{Known}
+use Rattle.exits.proofs.Bits.{none-within, bits-low}
 use Rattle.pair_codes.specs.Pairs.{Comparable, CodesBelow}
 
 -- None stands at first.
@@ -51,27 +53,33 @@ module _ {table : List ℕ} {marks : List Bool} {x y : Row} {k : ℕ} {codes : L
   codes-stored {c} l is next =
       more (λ h b. getD-set-other codes k h c 0 (λ q. omega (arith, b, q))) (λ m t. getD-set-same codes k c 0 l ∙ is) next
 
-module _ {table : List ℕ} {numbers : List ℤ} {ends : List ℕ} {reach : List (List Bool)} {marks : List Bool}
+-- Up to the next term there are values only, which tell nothing of the asked term.
+pub known-next : {table exits : List ℕ} {term : ℕ} → Exits table term exits → {x y : Row} {k known : ℕ}
+    → Known table term exits x y (k + 1) known → {e m : ℕ} → NextTerm table k m e → Known table term exits x y e known
+unfolding tellsAt toldCode bits
+known-next {table} {exits} {term} exiting {x} {y} {k} {known} v next =
+    record {
+      few = v .few;
+      true-of = v .true-of;
+      told = λ h l. ⊎-elim
+          (λ b. v .told h (ltb-true h (k + 1) b))
+          (λ b. let z = exiting .terms h (next .between h (omega (arith, ltb-false h (k + 1) b)) l) in
+          rw z (none-within (bits known) (bits-low known)))
+          (on-or-off (ltb h (k + 1)));
+    }
+
+module _ {table ops ends : List ℕ} {reach : List (List Bool)} {marks : List Bool}
     {exits : List ℕ} {term columns : ℕ} {rows : List ℤ} {n stride : ℕ} {ranks : List ℤ}
-    (ready : Comparable table numbers ends reach marks exits term columns rows n stride ranks) where
+    (ready : Comparable table ops ends reach marks exits term columns rows n stride ranks) where
   -- The first record is a term.
   pub first-term : isTerm (recordAt table 0) ≡ true
   first-term = accepted-table table columns (ready .taken .isAccepted) .first
 
-  module _ {k : ℕ} (is : isTerm (recordAt table k) ≡ true) (before : k < term) where
+  module _ {k : ℕ} (is : isTerm (recordAt table k) ≡ true) (most : k ≤ term) where
     -- After term record k comes the next,
     pub next-term : NextTerm table k (recordCount table) (getD ends k 0)
-    next-term = ready .runs .each k (omega (arith, before, ready .taken .below)) is .follows
+    next-term = ready .runs .each k (omega (arith, most, ready .taken .below)) is .follows
 
-    -- which is not past the asked one,
-    pub next-most : getD ends k 0 ≤ term
-    next-most =
-        ⊎-elim
-        (λ b. absurd
-        (false≢true (sym (next-term .between term before (ltb-true term (getD ends k 0) b)) ∙ ready .taken .isRecord)))
-        (λ b. ltb-false term (getD ends k 0) b)
-        (on-or-off (ltb term (getD ends k 0)))
-
-    -- and a term record too.
-    pub next-is : isTerm (recordAt table (getD ends k 0)) ≡ true
-    next-is = next-term .ends (omega (arith, next-most, ready .taken .below))
+    -- which is a term record too where it is not past the asked one.
+    pub next-is : getD ends k 0 ≤ term → isTerm (recordAt table (getD ends k 0)) ≡ true
+    next-is h = next-term .ends (omega (arith, h, ready .taken .below))

@@ -2,16 +2,19 @@
 use mathlib.Core.Path.{_≡_, refl, sym, _∙_, ap}
 use mathlib.Core.Bool.{Bool, true, false, cond, _&&_}
 use mathlib.Core.List.{List}
-use Prim.Native.Nat.{ℕ}
+use Prim.Native.Nat.{ℕ, _<_}
 use lib.Dec.{eqb}
 use lib.IntN.{ℤ}
+use lib.ListN.{getD}
 use Rattle.model.specs.declared.{Outcome.Outcome}
-use Rattle.model.specs.Term.{termAt}
+use Rattle.model.specs.Term.{Term, termAt}
 use Rattle.model.specs.Better.{equalIn}
 use Rattle.model.specs.Compare.{outcome}
 use Rattle.model.specs.Query.{rowAt, beatsIn}
+use Rattle.laws.specs.Bools.{off, and-l}
 use Rattle.laws.specs.Taken.{TakenTerm, taken-sound}
 use Rattle.laws.specs.Codes.{codeOf}
+use Rattle.cells.specs.Keys.{Keyed}
 use Rattle.elimination.specs.Beats.{beats-one, beats-two}
 use Rattle.pairwise.specs.Pairs.{outcomeIn, groupOutcome}
 
@@ -45,3 +48,13 @@ module _ {table : List ℕ} {term columns : ℕ} (k : TakenTerm table columns te
       ∙ two-in (equalIn group (rowAt columns rows i) (rowAt columns rows j))
       (outcome (termAt table term) (rowAt columns rows i) (rowAt columns rows j))
       ∙ ap (λ (x : ℕ). eqb x 2) (sym is)
+
+-- Rows of different keys are in different groups, so that neither beats the other.
+pub keys-apart : {group columns : ℕ} {rows : List ℤ} {n : ℕ} {keys : List ℕ} → Keyed group columns rows n keys
+    → (t : Term) (i j : ℕ) → i < n → j < n → (getD keys i 0 ≡ getD keys j 0 → ⊥)
+    → (beatsIn t columns rows group i j ≡ false) × (beatsIn t columns rows group j i ≡ false)
+unfolding beatsIn
+keys-apart {group} {columns} {rows} keyed t i j l m differ = (
+  off _ (λ e. differ (sym (keyed .each j i m l (and-l _ _ e)))),
+  off _ (λ e. differ (keyed .each i j l m (and-l _ _ e))),
+)

@@ -13,9 +13,9 @@ use Rattle.laws.specs.AcceptedTable.{accepted-table}
 use Rattle.cells.specs.Places.{row-in, row-length}
 use Rattle.pair_codes.specs.Pairs.{Comparable, RowOf}
 
-module _ {table : List ℕ} {numbers : List ℤ} {ends : List ℕ} {reach : List (List Bool)} {marks : List Bool} {exits : List ℕ}
+module _ {table ops ends : List ℕ} {reach : List (List Bool)} {marks : List Bool} {exits : List ℕ}
     {term columns : ℕ} {rows : List ℤ} {n stride : ℕ} {ranks : List ℤ}
-    (c : Comparable table numbers ends reach marks exits term columns rows n stride ranks) where
+    (c : Comparable table ops ends reach marks exits term columns rows n stride ranks) where
   -- A row of the run ends inside it,
   pub row-ends : {i : ℕ} → i < n → i * columns + columns ≤ length rows
   row-ends {i} l = row-in n columns (length rows) (c .run) i l

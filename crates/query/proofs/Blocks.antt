@@ -64,8 +64,8 @@ stride-for t = record { wide = omega arith; narrow = omega (arith, term-below t)
 module _ {table : List ℕ} {columns term : ℕ} {rows : List ℤ} {n stride : ℕ}
     (asked : AskedRows table columns term rows n) (strides : StrideFor term stride) where
   -- What the rows' ranks are made from,
-  pub rankable : {numbers : List ℤ} {ends : List ℕ} {marks : List Bool} {size : ℕ}
-      → Numbers table numbers → RunEnds table ends → Marked table term marks → Room n stride size
+  pub rankable : {numbers : List ℤ} {ends exits : List ℕ} {marks : List Bool} {size : ℕ}
+      → Numbers table numbers → RunEnds table ends → Marked table term exits marks → Room n stride size
       → Rankable table numbers ends marks term columns rows n stride size
   rankable a e m room =
       record {
@@ -82,7 +82,7 @@ module _ {table : List ℕ} {columns term : ℕ} {rows : List ℤ} {n stride : �
   -- and all that is prepared.
   pub ready : {numbers : List ℤ} {ends : List ℕ} {reach : List (List Bool)} {marks : List Bool}
       {exits : List ℕ} {ranks values : List ℤ}
-      → Numbers table numbers → RunEnds table ends → Reached table ends reach → Marked table term marks
+      → Numbers table numbers → RunEnds table ends → Reached table ends reach → Marked table term exits marks
       → Exits table term exits → Ranked table ends marks columns rows n stride (term + 1) ranks → Room n stride (length ranks)
       → Valued columns rows n columns values → Room n 512 (length values)
       → Ready table numbers ends reach marks exits term columns rows n stride ranks values

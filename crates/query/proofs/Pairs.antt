@@ -9,11 +9,12 @@ use lib.ListN.{length, replicate, getD-replicate}
 use Rattle.model.specs.Search.{countBelow}
 use Rattle.laws.specs.Search.{count-bound}
 use Rattle.laws.specs.Order.{Rel}
-use Rattle.values.specs.Prepared.{Numbers, RunEnds, Reached}
+use Rattle.values.specs.Prepared.{RunEnds, Reached}
 use Rattle.cells.specs.Values.{Room}
 use Rattle.ranks.specs.Beneath.{Marked}
 use Rattle.ranks.specs.Ranked.{Ranked}
 use Rattle.exits.specs.Exits.{Exits}
+use Rattle.ops.specs.Ops.{Ops}
 use Rattle.elimination.specs.Elimination.{Rounds, Beaten}
 use Rattle.elimination.specs.Beaten.{beaten-start}
 use Rattle.elimination.specs.Rounds.{rounds-start}
@@ -21,16 +22,16 @@ use Rattle.pair_codes.specs.Pairs.{Comparable}
 use Rattle.query.specs.Selected.{AskedRows, StrideFor}
 
 -- A query's rows can be compared.
-pub comparable : {table : List ℕ} {columns term : ℕ} {rows : List ℤ} {n stride : ℕ} {numbers : List ℤ} {ends : List ℕ}
+pub comparable : {table : List ℕ} {columns term : ℕ} {rows : List ℤ} {n stride : ℕ} {ops ends : List ℕ}
     {reach : List (List Bool)} {marks : List Bool} {exits : List ℕ} {ranks : List ℤ}
     → AskedRows table columns term rows n → StrideFor term stride
-    → Numbers table numbers → RunEnds table ends → Reached table ends reach → Marked table term marks
+    → Ops table term ops → RunEnds table ends → Reached table ends reach → Marked table term exits marks
     → Exits table term exits → Ranked table ends marks columns rows n stride (term + 1) ranks
-    → Room n stride (length ranks) → Comparable table numbers ends reach marks exits term columns rows n stride ranks
-comparable asked strides a e g m x ranked room =
+    → Room n stride (length ranks) → Comparable table ops ends reach marks exits term columns rows n stride ranks
+comparable asked strides o e g m x ranked room =
     record {
       taken = asked .taken;
-      prepared = a;
+      does = o;
       runs = e;
       reached = g;
       marked = m;

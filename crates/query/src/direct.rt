@@ -1,6 +1,8 @@
 // The direct engine: rows are compared pair by pair, by ranks that are found once per query; a row that is gone is not
 // compared again, and a dropped row's witness comes from the list of kept rows.
+use cells::vetted::keys::fill_keys;
 use exits::vetted::exits;
+use ops::vetted::ops;
 use pairwise::vetted::meetings::eliminate;
 use ranks::vetted::beneath::beneath;
 use ranks::vetted::fill::fill_ranks;
@@ -184,7 +186,7 @@ fn in_131072_ranks(
     )
 }
 
-// Prepares the table's values, the marks beneath the term, where a comparison may stop, and the rows' ranks.
+// Prepares the table's values, what each record tells of the term and what it does, the marks, and the rows' ranks.
 fn prepared(
     table: &[u8],
     columns: usize,
@@ -204,12 +206,13 @@ fn prepared(
     let a = numbers(table);
     let e = run_ends(table);
     let g = closures(table, &e);
-    let marks = beneath(table, &a, term);
     let x = exits(table, &a, term);
+    let marks = beneath(table, &a, &x, term);
+    let o = ops(table, &a, term);
     fill_ranks(table, &a, &e, &marks, term, columns, rows, n, stride, ranks);
     by_pairs(
         table,
-        &a,
+        &o,
         &e,
         &g,
         &marks,
@@ -228,11 +231,11 @@ fn prepared(
 // Which rows are gone, and by which; then the kept rows and the answers.
 fn by_pairs(
     table: &[u8],
-    numbers: &[i32; 256],
+    ops: &[u8; 512],
     ends: &[u8; 128],
     reach: &[[bool; 32]; 256],
     marks: &[bool; 128],
-    exits: &[u8; 512],
+    exits: &[u8; 128],
     term: u8,
     group: u8,
     columns: usize,
@@ -242,7 +245,7 @@ fn by_pairs(
     ranks: &[i32],
     answers: &mut [u16],
 ) -> u16
-    requires { ⌜ Comparable (now table) (now numbers) (now ends) (now reach) (now marks) (now exits) term columns (now rows) n stride
+    requires { ⌜ Comparable (now table) (now ops) (now ends) (now reach) (now marks) (now exits) term columns (now rows) n stride
         (now ranks) × (n ≤ length (now answers)) ⌝ }
     ensures { λ r. ⌜ Selected (beatsIn (termAt (now (table .entry)) term) columns (now (rows .entry)) group) n
         (now (answers .entry)) (now (answers .exit)) r ⌝ }
@@ -250,9 +253,11 @@ fn by_pairs(
     let mut gone = [0u8; 1024];
     let mut by = [0u16; 1024];
     let mut codes = [0u8; 128];
+    let mut keys = [0u8; 1024];
+    fill_keys(group, columns, rows, n, &mut keys);
     eliminate(
         table,
-        numbers,
+        ops,
         ends,
         reach,
         marks,
@@ -264,6 +269,7 @@ fn by_pairs(
         n,
         stride,
         ranks,
+        &keys,
         &mut gone,
         &mut by,
         &mut codes,
@@ -272,7 +278,7 @@ fn by_pairs(
     let m = list_kept(n, &gone, &mut kept);
     write_answers(
         table,
-        numbers,
+        ops,
         ends,
         reach,
         marks,

@@ -35,11 +35,11 @@ pub fn list_kept(n: usize, gone: &[u8], kept: &mut [u16]) -> usize
 // Writes an entry for each of the n rows.
 pub fn write_answers(
     table: &[u8],
-    numbers: &[i32; 256],
+    ops: &[u8; 512],
     ends: &[u8; 128],
     reach: &[[bool; 32]; 256],
     marks: &[bool; 128],
-    exits: &[u8; 512],
+    exits: &[u8; 128],
     term: u8,
     group: u8,
     columns: usize,
@@ -54,7 +54,7 @@ pub fn write_answers(
     codes: &mut [u8; 128],
     answers: &mut [u16],
 )
-    requires { ⌜ Comparable (now table) (now numbers) (now ends) (now reach) (now marks) (now exits) term columns (now rows) n stride
+    requires { ⌜ Comparable (now table) (now ops) (now ends) (now reach) (now marks) (now exits) term columns (now rows) n stride
         (now ranks)
         × (n ≤ length (now gone)) × (n ≤ length (now by)) × (length (now codes) ≡ 128)
         × KeptRows (beatsIn (termAt (now table) term) columns (now rows) group) n m (now gone) (now kept)
@@ -68,7 +68,7 @@ pub fn write_answers(
     while row < n {
         answers[row] = entry(
             table,
-            numbers,
+            ops,
             ends,
             reach,
             marks,
@@ -94,11 +94,11 @@ pub fn write_answers(
 // Row i's entry.
 fn entry(
     table: &[u8],
-    numbers: &[i32; 256],
+    ops: &[u8; 512],
     ends: &[u8; 128],
     reach: &[[bool; 32]; 256],
     marks: &[bool; 128],
-    exits: &[u8; 512],
+    exits: &[u8; 128],
     term: u8,
     group: u8,
     columns: usize,
@@ -113,7 +113,7 @@ fn entry(
     i: usize,
     codes: &mut [u8; 128],
 ) -> u16
-    requires { ⌜ Comparable (now table) (now numbers) (now ends) (now reach) (now marks) (now exits) term columns (now rows) n stride
+    requires { ⌜ Comparable (now table) (now ops) (now ends) (now reach) (now marks) (now exits) term columns (now rows) n stride
         (now ranks)
         × (n ≤ length (now gone)) × (n ≤ length (now by)) × (length (now codes) ≡ 128)
         × KeptRows (beatsIn (termAt (now table) term) columns (now rows) group) n m (now gone) (now kept)
@@ -126,7 +126,7 @@ fn entry(
     }
     first_better(
         table,
-        numbers,
+        ops,
         ends,
         reach,
         marks,
@@ -149,11 +149,11 @@ fn entry(
 // The first of the m kept rows that is better than row i, or n. Row `by` is better, so that it need not be compared.
 fn first_better(
     table: &[u8],
-    numbers: &[i32; 256],
+    ops: &[u8; 512],
     ends: &[u8; 128],
     reach: &[[bool; 32]; 256],
     marks: &[bool; 128],
-    exits: &[u8; 512],
+    exits: &[u8; 128],
     term: u8,
     group: u8,
     columns: usize,
@@ -167,7 +167,7 @@ fn first_better(
     by: u16,
     codes: &mut [u8; 128],
 ) -> u16
-    requires { ⌜ Comparable (now table) (now numbers) (now ends) (now reach) (now marks) (now exits) term columns (now rows) n stride
+    requires { ⌜ Comparable (now table) (now ops) (now ends) (now reach) (now marks) (now exits) term columns (now rows) n stride
         (now ranks)
         × (m ≡ keptCount n (beatsIn (termAt (now table) term) columns (now rows) group)) × (m ≤ length (now list))
         × Listed (kept n (beatsIn (termAt (now table) term) columns (now rows) group)) n (now list) × (i < n)
@@ -183,7 +183,7 @@ fn first_better(
         }
         if beats(
             table,
-            numbers,
+            ops,
             ends,
             reach,
             marks,

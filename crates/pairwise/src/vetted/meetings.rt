@@ -7,6 +7,7 @@ ghost use Prim.Native.Nat.{_+_, _<_};
 ghost use lib.ListN.{length};
 ghost use Rattle.model.specs.Term.{termAt};
 ghost use Rattle.model.specs.Query.{beatsIn};
+ghost use Rattle.cells.specs.Keys.{Keyed};
 ghost use Rattle.elimination.specs.Elimination.{Rounds, Turn, Met, Settled, Beaten};
 ghost use Rattle.pair_codes.specs.Pairs.{Comparable};
 ghost use Rattle.pairwise.specs.Pairs.{Buffers};
@@ -14,11 +15,11 @@ ghost use Rattle.pairwise.specs.Pairs.{Buffers};
 // All rounds, with no row gone at first: a row is not gone exactly where it is kept.
 pub fn eliminate(
     table: &[u8],
-    numbers: &[i32; 256],
+    ops: &[u8; 512],
     ends: &[u8; 128],
     reach: &[[bool; 32]; 256],
     marks: &[bool; 128],
-    exits: &[u8; 512],
+    exits: &[u8; 128],
     term: u8,
     group: u8,
     columns: usize,
@@ -26,15 +27,17 @@ pub fn eliminate(
     n: usize,
     stride: usize,
     ranks: &[i32],
+    keys: &[u8; 1024],
     gone: &mut [u8],
     by: &mut [u16],
     codes: &mut [u8; 128],
 )
-    requires { ⌜ Comparable (now table) (now numbers) (now ends) (now reach) (now marks) (now exits) term columns (now rows) n stride
+    requires { ⌜ Comparable (now table) (now ops) (now ends) (now reach) (now marks) (now exits) term columns (now rows) n stride
         (now ranks)
         × Buffers (length (now gone)) (length (now by)) (length (now codes))
         × Rounds (beatsIn (termAt (now table) term) columns (now rows) group) n 0 (now gone)
-        × Beaten (beatsIn (termAt (now table) term) columns (now rows) group) n (now gone) (now by) ⌝ }
+        × Beaten (beatsIn (termAt (now table) term) columns (now rows) group) n (now gone) (now by)
+        × Keyed group columns (now rows) n (now keys) ⌝ }
     ensures { λ _. ⌜ Settled (beatsIn (termAt (now (table .entry)) term) columns (now (rows .entry)) group)
         n (now (gone .exit))
         × Beaten (beatsIn (termAt (now (table .entry)) term) columns (now (rows .entry)) group)
@@ -44,7 +47,7 @@ pub fn eliminate(
     while i < n {
         round_or_skip(
             table,
-            numbers,
+            ops,
             ends,
             reach,
             marks,
@@ -56,6 +59,7 @@ pub fn eliminate(
             n,
             stride,
             ranks,
+            keys,
             i,
             gone,
             by,
@@ -68,11 +72,11 @@ pub fn eliminate(
 // A row that is gone has no round.
 fn round_or_skip(
     table: &[u8],
-    numbers: &[i32; 256],
+    ops: &[u8; 512],
     ends: &[u8; 128],
     reach: &[[bool; 32]; 256],
     marks: &[bool; 128],
-    exits: &[u8; 512],
+    exits: &[u8; 128],
     term: u8,
     group: u8,
     columns: usize,
@@ -80,16 +84,18 @@ fn round_or_skip(
     n: usize,
     stride: usize,
     ranks: &[i32],
+    keys: &[u8; 1024],
     i: usize,
     gone: &mut [u8],
     by: &mut [u16],
     codes: &mut [u8; 128],
 )
-    requires { ⌜ Comparable (now table) (now numbers) (now ends) (now reach) (now marks) (now exits) term columns (now rows) n stride
+    requires { ⌜ Comparable (now table) (now ops) (now ends) (now reach) (now marks) (now exits) term columns (now rows) n stride
         (now ranks)
         × (i < n) × Buffers (length (now gone)) (length (now by)) (length (now codes))
         × Rounds (beatsIn (termAt (now table) term) columns (now rows) group) n i (now gone)
-        × Beaten (beatsIn (termAt (now table) term) columns (now rows) group) n (now gone) (now by) ⌝ }
+        × Beaten (beatsIn (termAt (now table) term) columns (now rows) group) n (now gone) (now by)
+        × Keyed group columns (now rows) n (now keys) ⌝ }
     ensures { λ _. ⌜ Rounds (beatsIn (termAt (now (table .entry)) term) columns (now (rows .entry)) group)
         n (i + 1) (now (gone .exit))
         × Beaten (beatsIn (termAt (now (table .entry)) term) columns (now (rows .entry)) group)
@@ -98,7 +104,7 @@ fn round_or_skip(
     if gone[i] == 0 {
         round(
             table,
-            numbers,
+            ops,
             ends,
             reach,
             marks,
@@ -110,6 +116,7 @@ fn round_or_skip(
             n,
             stride,
             ranks,
+            keys,
             i,
             gone,
             by,
@@ -121,11 +128,11 @@ fn round_or_skip(
 // The round of row i: it meets each later row that is not gone, until it is beaten.
 fn round(
     table: &[u8],
-    numbers: &[i32; 256],
+    ops: &[u8; 512],
     ends: &[u8; 128],
     reach: &[[bool; 32]; 256],
     marks: &[bool; 128],
-    exits: &[u8; 512],
+    exits: &[u8; 128],
     term: u8,
     group: u8,
     columns: usize,
@@ -133,16 +140,18 @@ fn round(
     n: usize,
     stride: usize,
     ranks: &[i32],
+    keys: &[u8; 1024],
     i: usize,
     gone: &mut [u8],
     by: &mut [u16],
     codes: &mut [u8; 128],
 )
-    requires { ⌜ Comparable (now table) (now numbers) (now ends) (now reach) (now marks) (now exits) term columns (now rows) n stride
+    requires { ⌜ Comparable (now table) (now ops) (now ends) (now reach) (now marks) (now exits) term columns (now rows) n stride
         (now ranks)
         × (i < n) × Buffers (length (now gone)) (length (now by)) (length (now codes))
         × Rounds (beatsIn (termAt (now table) term) columns (now rows) group) n i (now gone)
-        × Beaten (beatsIn (termAt (now table) term) columns (now rows) group) n (now gone) (now by) ⌝ }
+        × Beaten (beatsIn (termAt (now table) term) columns (now rows) group) n (now gone) (now by)
+        × Keyed group columns (now rows) n (now keys) ⌝ }
     ensures { λ _. ⌜ Rounds (beatsIn (termAt (now (table .entry)) term) columns (now (rows .entry)) group)
         n (i + 1) (now (gone .exit))
         × Beaten (beatsIn (termAt (now (table .entry)) term) columns (now (rows .entry)) group)
@@ -152,7 +161,7 @@ fn round(
     while j < n {
         if meet(
             table,
-            numbers,
+            ops,
             ends,
             reach,
             marks,
@@ -164,6 +173,7 @@ fn round(
             n,
             stride,
             ranks,
+            keys,
             i,
             j,
             gone,
@@ -179,14 +189,14 @@ fn round(
 }
 
 // Row i meets row j. Says whether row j is better; where row i is, row j is gone. It is stored without a branch, since which
-// of the two it is cannot be foreseen.
+// of the two it is cannot be foreseen. Rows of different keys are in different groups.
 fn meet(
     table: &[u8],
-    numbers: &[i32; 256],
+    ops: &[u8; 512],
     ends: &[u8; 128],
     reach: &[[bool; 32]; 256],
     marks: &[bool; 128],
-    exits: &[u8; 512],
+    exits: &[u8; 128],
     term: u8,
     group: u8,
     columns: usize,
@@ -194,17 +204,19 @@ fn meet(
     n: usize,
     stride: usize,
     ranks: &[i32],
+    keys: &[u8; 1024],
     i: usize,
     j: usize,
     gone: &mut [u8],
     by: &mut [u16],
     codes: &mut [u8; 128],
 ) -> bool
-    requires { ⌜ Comparable (now table) (now numbers) (now ends) (now reach) (now marks) (now exits) term columns (now rows) n stride
+    requires { ⌜ Comparable (now table) (now ops) (now ends) (now reach) (now marks) (now exits) term columns (now rows) n stride
         (now ranks)
         × (i < n) × (j < n) × Buffers (length (now gone)) (length (now by)) (length (now codes))
         × Turn (beatsIn (termAt (now table) term) columns (now rows) group) n i j (now gone)
-        × Beaten (beatsIn (termAt (now table) term) columns (now rows) group) n (now gone) (now by) ⌝ }
+        × Beaten (beatsIn (termAt (now table) term) columns (now rows) group) n (now gone) (now by)
+        × Keyed group columns (now rows) n (now keys) ⌝ }
     ensures { λ r. ⌜ Met (beatsIn (termAt (now (table .entry)) term) columns (now (rows .entry)) group)
         n i (j + 1) (now (gone .exit)) r
         × Beaten (beatsIn (termAt (now (table .entry)) term) columns (now (rows .entry)) group)
@@ -212,28 +224,31 @@ fn meet(
         × (r ≡ true → beatsIn (termAt (now (table .entry)) term) columns (now (rows .entry)) group j i ≡ true)
         × (length (now (codes .exit)) ≡ 128) ⌝ }
 {
-    if gone[j] == 0 {
-        let c = group_code(
-            table,
-            numbers,
-            ends,
-            reach,
-            marks,
-            exits,
-            term,
-            group,
-            columns,
-            rows,
-            n,
-            stride,
-            ranks,
-            i,
-            j,
-            codes,
-        );
-        by[j] = i as u16;
-        gone[j] = (c == 1) as u8;
-        return c == 2;
+    if gone[j] != 0 {
+        return false;
     }
-    false
+    if keys[i] != keys[j] {
+        return false;
+    }
+    let c = group_code(
+        table,
+        ops,
+        ends,
+        reach,
+        marks,
+        exits,
+        term,
+        group,
+        columns,
+        rows,
+        n,
+        stride,
+        ranks,
+        i,
+        j,
+        codes,
+    );
+    by[j] = i as u16;
+    gone[j] = (c == 1) as u8;
+    c == 2
 }

@@ -14,11 +14,11 @@ ghost use Rattle.pairwise.specs.Pairs.{groupOutcome, outcomeIn};
 // Row j is in row i's set and better.
 pub fn beats(
     table: &[u8],
-    numbers: &[i32; 256],
+    ops: &[u8; 512],
     ends: &[u8; 128],
     reach: &[[bool; 32]; 256],
     marks: &[bool; 128],
-    exits: &[u8; 512],
+    exits: &[u8; 128],
     term: u8,
     group: u8,
     columns: usize,
@@ -30,7 +30,7 @@ pub fn beats(
     i: usize,
     codes: &mut [u8; 128],
 ) -> bool
-    requires { ⌜ Comparable (now table) (now numbers) (now ends) (now reach) (now marks) (now exits) term columns (now rows) n stride
+    requires { ⌜ Comparable (now table) (now ops) (now ends) (now reach) (now marks) (now exits) term columns (now rows) n stride
         (now ranks)
         × (j < n) × (i < n) × (length (now codes) ≡ 128) ⌝ }
     ensures { λ r. ⌜ (r ≡ beatsIn (termAt (now (table .entry)) term) columns (now (rows .entry)) group j i)
@@ -38,7 +38,7 @@ pub fn beats(
 {
     group_code(
         table,
-        numbers,
+        ops,
         ends,
         reach,
         marks,
@@ -60,11 +60,11 @@ pub fn beats(
 // The code of row i against row j; unranked where they are in different groups.
 pub fn group_code(
     table: &[u8],
-    numbers: &[i32; 256],
+    ops: &[u8; 512],
     ends: &[u8; 128],
     reach: &[[bool; 32]; 256],
     marks: &[bool; 128],
-    exits: &[u8; 512],
+    exits: &[u8; 128],
     term: u8,
     group: u8,
     columns: usize,
@@ -76,7 +76,7 @@ pub fn group_code(
     j: usize,
     codes: &mut [u8; 128],
 ) -> u8
-    requires { ⌜ Comparable (now table) (now numbers) (now ends) (now reach) (now marks) (now exits) term columns (now rows) n stride
+    requires { ⌜ Comparable (now table) (now ops) (now ends) (now reach) (now marks) (now exits) term columns (now rows) n stride
         (now ranks)
         × (i < n) × (j < n) × (length (now codes) ≡ 128) ⌝ }
     ensures { λ r. ⌜ (r ≡ codeOf (groupOutcome (termAt (now (table .entry)) term) columns (now (rows .entry)) group i j))
@@ -86,7 +86,7 @@ pub fn group_code(
     let t = j * columns;
     code_in(
         table,
-        numbers,
+        ops,
         ends,
         reach,
         marks,
@@ -109,11 +109,11 @@ pub fn group_code(
 // The same of two rows.
 fn code_in(
     table: &[u8],
-    numbers: &[i32; 256],
+    ops: &[u8; 512],
     ends: &[u8; 128],
     reach: &[[bool; 32]; 256],
     marks: &[bool; 128],
-    exits: &[u8; 512],
+    exits: &[u8; 128],
     term: u8,
     group: u8,
     columns: usize,
@@ -127,7 +127,7 @@ fn code_in(
     second: &[i32],
     codes: &mut [u8; 128],
 ) -> u8
-    requires { ⌜ Comparable (now table) (now numbers) (now ends) (now reach) (now marks) (now exits) term columns (now rows) n stride
+    requires { ⌜ Comparable (now table) (now ops) (now ends) (now reach) (now marks) (now exits) term columns (now rows) n stride
         (now ranks)
         × RowOf columns (now rows) n i (now first) × RowOf columns (now rows) n j (now second) × (length (now codes) ≡ 128) ⌝ }
     ensures { λ r. ⌜ (r ≡ codeOf (outcomeIn (termAt (now (table .entry)) term) group (now (first .entry)) (now (second .entry))))
@@ -136,7 +136,7 @@ fn code_in(
     if in_group(group, first, second) {
         return pair_code(
             table,
-            numbers,
+            ops,
             ends,
             reach,
             marks,

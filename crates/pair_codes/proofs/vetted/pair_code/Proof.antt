@@ -1,37 +1,40 @@
--- `pair_codes::vetted::pair_code` meets its contract: the marked term records below `k` hold their codes. Assumes nothing.
+-- `pair_codes::vetted::pair_code` meets its contract: the marked term records below `k` hold their codes, and what the
+-- records below `k` tell is known. Assumes nothing.
 use mathlib.Core.Path.{_≡_, sym, _∙_}
 use mathlib.Core.Bool.{true}
-use Prim.Native.Nat.{_+_, _*_, _-_, _≤_, _<_}
-use lib.ListN.{length, getD, length-set}
-use denote.Ref.{now}
-use native.Mathlib.Omega.{arith}
 use mathlib.Core.Logic.{⊎-elim}
-use borrow.Author.Needs.{needs}
-use Rattle.pair_codes.proofs.Coded.{term-below, record-below}
-use Rattle.pair_codes.proofs.Steps.{codes-none, codes-unmarked, codes-stored, first-term, next-term, next-most, next-is}
+use Prim.Native.Nat.{_+_, _-_, _≤_, _<_}
+use native.Mathlib.Omega.{arith}
+use lib.ListN.{length, length-set}
+use denote.Ref.{now}
 use Rattle.model.specs.Record.{recordAt, isTerm}
 use Rattle.model.specs.Term.{termAt}
 use Rattle.model.specs.Compare.{outcome}
 use Rattle.laws.specs.Codes.{code-below}
-use Rattle.exits.proofs.Parts.{exit-read}
+use Rattle.exits.specs.Exits.{maskAt, bits}
+use Rattle.exits.specs.Known.{Known}
+use Rattle.exits.proofs.Known.{known-none, known-silent, known-more, known-stop, known-all}
+use Rattle.pair_codes.proofs.Coded.{term-below}
+use Rattle.pair_codes.proofs.Steps.{codes-none, codes-unmarked, codes-stored, known-next, first-term, next-term, next-is}
 use Rattle.pair_codes.specs.Pairs.{CodesBelow}
+use borrow.Author.Needs.{needs}
 use Rattle.pair_codes.proofs.vetted.pair_code.Statement.{statement}
 use Rattle.pair_codes.proofs.vetted.pair_code.Tie as tie
-use Rattle.pair_codes.proofs.vetted.pair_code.Reads as reads
-use Rattle.pair_codes.proofs.vetted.pair_code.Lts as lts
-use Rattle.pair_codes.proofs.vetted.record_code.Reads as record-code-reads
 
 abbrev Inv-loop : tie.InvT-loop
-Inv-loop table numbers ends reach marks exits term columns rows n stride ranks i j first second codes₀ k₀ codes k =
-    (k ≤ term) × (length codes ≡ 128) × (isTerm (recordAt table k) ≡ true) × CodesBelow table marks first second k codes
+Inv-loop table ops ends reach marks exits term columns rows n stride ranks i j first second codes₀ known₀ k₀ codes known k =
+    (length codes ≡ 128) × (k ≤ term → isTerm (recordAt table k) ≡ true) × CodesBelow table marks first second k codes
+    × Known table term exits first second k known × (known < 3)
 
 abbrev μ-loop : tie.MeasureT-loop
-μ-loop table numbers ends reach marks exits term columns rows n stride ranks i j first second codes₀ k₀ codes k = term - k
+μ-loop table ops ends reach marks exits term columns rows n stride ranks i j first second codes₀ known₀ k₀ codes known k = term + 1 - k
 
 loop-holds : tie.Need-loop-holds Inv-loop μ-loop
 loop-holds c =
     let s = c .before in
-    (omega arith, s .pre .3, first-term (s .pre .0), codes-none _ _ _ _ _)
+    let a = s .args in
+    let p = s .pre .0 in
+    (s .pre .3, λ l. first-term p, codes-none _ _ _ _ _, known-none (p .exiting) (now (a .first)) (now (a .second)), omega arith)
 
 cast-at : tie.Need-cast-at Inv-loop μ-loop
 cast-at c = search needs
@@ -44,39 +47,31 @@ record-code-requires c κs =
     let l = c .before .before .before .before in
     let s = l .before .before in
     let v = l .loop .inv in
-    (s .pre .0, s .pre .1, s .pre .2, v .1, record { most = v .0; isRecord = v .2; marked = c .before .if1 .taken }, v .3)
+    let t = c .before .before .before .loop-test .taken in
+    (s .pre .0, s .pre .1, s .pre .2, v .0, record { most = t; isRecord = v .1 t; marked = c .before .if1 .taken }, v .2)
 
-mul-exit : tie.Need-mul-exit Inv-loop μ-loop
-mul-exit c = search needs
+element-copy-out-told : tie.Need-element-copy-out-told Inv-loop μ-loop
+element-copy-out-told c = search needs
 
-cast-exit : tie.Need-cast-exit Inv-loop μ-loop
-cast-exit c = search needs
-
-add-exit : tie.Need-add-exit Inv-loop μ-loop
-add-exit c = search needs
-
-element-copy-out-exit : tie.Need-element-copy-out-exit Inv-loop μ-loop
-element-copy-out-exit c =
-    let l = c .before .before .before .before .before in
-    let s = l .before .before in
-    omega (arith, rw (← (c .record-code .ensures)) at (code-below (outcome (termAt (now (s .args .table)) (l .loop .k)) (now (s .args .first)) (now (s .args .second)))), term-below (s .pre .0), l .loop .inv .0)
+told-requires : tie.Need-told-requires Inv-loop μ-loop
+told-requires c κs =
+    let r = c .before in
+    let l = r .before .before .before .before .before in
+    let a = l .before .before .args in
+    rw (r .record-code .ensures) (code-below (outcome (termAt (now (a .table)) (l .loop .k)) (now (a .first)) (now (a .second))))
 
 returns : tie.Need-returns Inv-loop μ-loop
+unfolding maskAt bits
 returns c =
-    let r = c .before .before in
+    let t = c .before in
+    let r = t .before .before in
     let l = r .before .before .before .before .before in
     let s = l .before .before in
     let a = s .args in
-    let k = l .loop .k in
-    let code : r .record-code .result < 4 =
-    rw (r .record-code .ensures) (code-below (outcome (termAt (now (a .table)) k) (now (a .first)) (now (a .second)))) in
-    let few : k < 128 = omega (arith, term-below (s .pre .0), l .loop .inv .0) in
-    let x = s .pre .0 .exiting in
-    let read = exit-read (now (a .exits)) (x .room) k few (r .record-code .result) code in (
-      sym read
-          ∙ sym (x .each k (r .record-code .result) few code (rw read (c .if2 .taken)) (now (a .first)) (now (a .second)) (sym (r .record-code .ensures))),
-      l .loop .inv .1,
-    )
+    let v = l .loop .inv in
+    let more = known-more (s .pre .0 .exiting) (now (a .first)) (now (a .second)) (v .3)
+    (rw (r .record-code .ensures) at (t .told .ensures)) in
+    (known-stop (s .pre .0 .exiting) (now (a .first)) (now (a .second)) more (c .if2 .taken), v .0)
 
 element-write-codes : tie.Need-element-write-codes Inv-loop μ-loop
 element-write-codes c = search needs
@@ -88,38 +83,52 @@ loop-less : tie.Need-loop-less Inv-loop μ-loop
 loop-less c =
     let l = c .before .before .before .before in
     let s = l .before .before in
-    omega (arith, next-most (s .pre .0) (l .loop .inv .2) (omega arith), next-term (s .pre .0) (l .loop .inv .2) (omega arith) .after)
+    let t = c .before .before .before .loop-test .taken in
+    omega (arith, t, next-term (s .pre .0) (l .loop .inv .1 t) t .after)
 
 loop-again : tie.Need-loop-again Inv-loop μ-loop
+unfolding maskAt
 loop-again c =
     let l = c .before .before .before .before in
     let s = l .before .before in
+    let a = s .args in
+    let p = s .pre .0 in
     let v = l .loop .inv in
-    let before : l .loop .k < s .args .term = omega arith in
-    let most = next-most (s .pre .0) (v .2) before in
-    let is = next-is (s .pre .0) (v .2) before in
-    let next = next-term (s .pre .0) (v .2) before in
+    let t = c .before .before .before .loop-test .taken in
+    let is = v .1 t in
+    let low : l .loop .k < 128 = omega (arith, t, term-below p) in
+    let next = next-term p is t in
     ⊎-elim
     (λ m. (
-      most,
-      rw (m .5) (simp length-set (v .1)),
-      is,
-      rw (m .5) (codes-stored (v .3) (omega (arith, v .1, term-below (s .pre .0))) (m .2 .ensures) next),
+      rw (m .6) (simp length-set (v .0)),
+      next-is p is t,
+      rw (m .6) (codes-stored (v .2) (omega (arith, low, v .0)) (m .2 .ensures) next),
+      rw (m .7)
+          (known-next (p .exiting)
+          (known-more (p .exiting) (now (a .first)) (now (a .second)) (v .3) (rw (m .2 .ensures) at (m .4 .ensures))) next),
+      rw (m .7) (m .5 .left),
     ))
-    (λ u. (most, rw (u .1) (v .1), is, rw (u .1) (codes-unmarked (v .3) (u .0 .left) next)))
+    (λ u. (
+      rw (u .1) (v .0),
+      next-is p is t,
+      rw (u .1) (codes-unmarked (v .2) (u .0 .left) next),
+      rw (u .2)
+          (known-next (p .exiting)
+          (known-silent (p .exiting) (now (a .first)) (now (a .second)) (v .3) (p .marked .telling (l .loop .k) low (u .0 .left))) next),
+      rw (u .2) (v .4),
+    ))
     (c .before .if1 .came)
 
-record-code-requires-2 : tie.Need-record-code-requires-2 Inv-loop μ-loop
-record-code-requires-2 c κs =
-    let l = c .before .before in
-    let s = l .before .before in
-    let v = l .loop .inv in
-    let q : l .loop .k ≡ s .args .term = omega (arith, v .0) in
-    let t = s .pre .0 .taken .isRecord in
-    (s .pre .0, s .pre .1, s .pre .2, v .1, record { most = omega arith; isRecord = t; marked = s .pre .0 .marked .asked }, rw q at (v .3))
-
 returns-2 : tie.Need-returns-2 Inv-loop μ-loop
-returns-2 c = (c .record-code2 .ensures, c .before .before .before .loop .inv .1)
+unfolding bits
+returns-2 c =
+    let l = c .before in
+    let s = l .before .before in
+    let a = s .args in
+    let v = l .loop .inv in
+    let all = known-all (s .pre .0 .exiting) (now (a .first)) (now (a .second)) (v .3) (c .loop-test .left) in
+    let small : l .loop .known ≡ bits (l .loop .known) = omega (arith, v .4) in
+    (small ∙ all, v .0)
 
 pub pair-code-spec : {M : Type 1} → statement M
 pair-code-spec =
@@ -131,14 +140,11 @@ pair-code-spec =
     cast-at
     element-copy-out-if1
     record-code-requires
-    mul-exit
-    cast-exit
-    add-exit
-    element-copy-out-exit
+    element-copy-out-told
+    told-requires
     returns
     element-write-codes
     element-copy-out-k
     loop-less
     loop-again
-    record-code-requires-2
     returns-2)

@@ -4,9 +4,18 @@ use native.Mathlib.Omega.{arith}
 use borrow.Author.Needs.{needs}
 use Rattle.elimination.specs.Rounds.{count-kept}
 use Rattle.witnesses.specs.Listing.{kept-rows}
+use Rattle.query.proofs.Taken.{few-columns}
 use Rattle.query.proofs.Pairs.{none-gone, none-beaten, count-small}
 use Rattle.query.proofs.direct.by_pairs.Statement.{statement}
 use Rattle.query.proofs.direct.by_pairs.Tie as tie
+
+slice-aggregate-fill-keys : tie.Need-slice-aggregate-fill-keys
+slice-aggregate-fill-keys c = search needs
+
+fill-keys-requires : tie.Need-fill-keys-requires
+fill-keys-requires c κs =
+    let p = c .before .before .before .pre .0 in
+    (p .run, few-columns (p .taken), p .few)
 
 slice-aggregate-eliminate : tie.Need-slice-aggregate-eliminate
 slice-aggregate-eliminate c = search needs
@@ -16,9 +25,15 @@ slice-aggregate-eliminate-2 c = search needs
 
 eliminate-requires : tie.Need-eliminate-requires
 eliminate-requires c κs =
-    let s = c .before .before .before .before .before in
-    let few = s .pre .0 .few in
-    (s .pre .0, record { ofGone = refl; ofBy = refl; ofCodes = refl }, none-gone _ _ few, none-beaten _ _ few)
+    let k = c .before .before .before .before .before in
+    let s = k .before .before .before .before in
+    let few = s .pre .0 .few in (
+      s .pre .0,
+      record { ofGone = refl; ofBy = refl; ofCodes = refl },
+      none-gone _ _ few,
+      none-beaten _ _ few,
+      k .fill-keys .ensures,
+    )
 
 slice-aggregate-list-kept : tie.Need-slice-aggregate-list-kept
 slice-aggregate-list-kept c = search needs
@@ -42,7 +57,7 @@ write-answers-requires : tie.Need-write-answers-requires
 write-answers-requires c κs =
     let l = c .before .before .before .before .before .before in
     let e = l .before .before .before .before .before in
-    let s = e .before .before .before .before .before .before in
+    let s = e .before .before .before .before .before .before .before .before .before .before in
     let q = l .list-kept .ensures in
     let r = e .eliminate .ensures in
     let k = kept-rows _ _ _ _ _ (r .0) (search needs) (q .0) (q .1) in
@@ -51,7 +66,7 @@ write-answers-requires c κs =
 cast-result : tie.Need-cast-result
 cast-result c =
     let l = c .before .before .before .before .before .before .before .before .before in
-    let s = l .before .before .before .before .before .before .before .before .before .before .before in
+    let s = l .before .before .before .before .before .before .before .before .before .before .before .before .before .before .before in
     omega (arith, count-small _ _ _ (s .pre .0 .few) (l .list-kept .ensures .0))
 
 same-length : tie.Need-same-length
@@ -72,6 +87,8 @@ pub by-pairs-spec : {M : Type 1} → statement M
 by-pairs-spec =
     tie.close
     (tie.spec
+    slice-aggregate-fill-keys
+    fill-keys-requires
     slice-aggregate-eliminate
     slice-aggregate-eliminate-2
     eliminate-requires

@@ -18,22 +18,27 @@ closures-requires c κs =
     let e = c .before in
     (vetted (e .before .before .before .before .pre .0 .taken), e .run-ends .ensures)
 
+exits-requires : tie.Need-exits-requires
+exits-requires c κs =
+    let a = c .before .before .before .before in
+    let t = a .before .before .before .pre .0 .taken in
+    record { columns = _; taken = t; prepared = a .numbers .ensures }
+
 beneath-requires : tie.Need-beneath-requires
 beneath-requires c κs =
-    let a = c .before .before .before .before in
+    let a = c .before .before .before .before .before .before .before in
     let t = a .before .before .before .pre .0 .taken in
     (term-below t, a .numbers .ensures, parts-low _ _ _ (t .isAccepted) (t .below))
 
-exits-requires : tie.Need-exits-requires
-exits-requires c κs =
-    let a = c .before .before .before .before .before .before in
-    let t = a .before .before .before .pre .0 .taken in
-    record { columns = _; taken = t; prepared = a .numbers .ensures }
+ops-requires : tie.Need-ops-requires
+ops-requires c κs =
+    let a = c .before .before .before .before .before .before .before .before .before in
+    (term-below (a .before .before .before .pre .0 .taken), a .numbers .ensures)
 
 fill-ranks-requires : tie.Need-fill-ranks-requires
 fill-ranks-requires c κs =
     let m = c .before .before .before .before .before .before in
-    let e = m .before .before .before .before in
+    let e = m .before .before .before .before .before .before .before in
     let a = e .before in
     let s = a .before .before .before in
     rankable (s .pre .0) (s .pre .1) (a .numbers .ensures) (e .run-ends .ensures) (m .beneath .ensures) (s .pre .2)
@@ -42,13 +47,13 @@ by-pairs-requires : tie.Need-by-pairs-requires
 by-pairs-requires c κs =
     let q = c .before .before .before .before .before .before .before in
     let r = q .before in
-    let x = r .before .before .before .before .before in
-    let m = x .before .before in
-    let g = m .before .before in
+    let o = r .before .before .before .before .before in
+    let m = o .before .before in
+    let x = m .before .before .before in
+    let g = x .before .before in
     let e = g .before .before in
-    let a = e .before in
-    let s = a .before .before .before in (
-      comparable (s .pre .0) (s .pre .1) (a .numbers .ensures) (e .run-ends .ensures) (g .closures .ensures) (m .beneath .ensures)
+    let s = e .before .before .before .before in (
+      comparable (s .pre .0) (s .pre .1) (o .ops .ensures) (e .run-ends .ensures) (g .closures .ensures) (m .beneath .ensures)
           (x .exits .ensures) (r .fill-ranks .ensures) (same-room (q .ranks .given) (s .pre .2)),
       s .pre .3,
     )
@@ -69,8 +74,9 @@ prepared-spec =
     numbers-requires
     run-ends-requires
     closures-requires
-    beneath-requires
     exits-requires
+    beneath-requires
+    ops-requires
     fill-ranks-requires
     by-pairs-requires
     same-length

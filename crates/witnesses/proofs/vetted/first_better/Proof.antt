@@ -12,11 +12,11 @@ use Rattle.witnesses.proofs.vetted.first_better.Statement.{statement}
 use Rattle.witnesses.proofs.vetted.first_better.Tie as tie
 
 abbrev Inv-loop : tie.InvT-loop
-Inv-loop table numbers ends reach marks exits term group columns rows n stride ranks list m i by codes₀ z₀ codes z =
+Inv-loop table ops ends reach marks exits term group columns rows n stride ranks list m i by codes₀ z₀ codes z =
     (z ≤ m) × (length codes ≡ 128) × Sought (beatsIn (termAt table term) columns rows group) n i z
 
 abbrev μ-loop : tie.MeasureT-loop
-μ-loop table numbers ends reach marks exits term group columns rows n stride ranks list m i by codes₀ z₀ codes z =
+μ-loop table ops ends reach marks exits term group columns rows n stride ranks list m i by codes₀ z₀ codes z =
     m - z
 
 loop-holds : tie.Need-loop-holds Inv-loop μ-loop

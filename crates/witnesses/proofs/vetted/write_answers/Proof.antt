@@ -13,12 +13,12 @@ use Rattle.witnesses.proofs.vetted.write_answers.Statement.{statement}
 use Rattle.witnesses.proofs.vetted.write_answers.Tie as tie
 
 abbrev Inv-loop : tie.InvT-loop
-Inv-loop table numbers ends reach marks exits term group columns rows n stride ranks gone by kept m codes₀ answers₀ row₀ codes answers row =
+Inv-loop table ops ends reach marks exits term group columns rows n stride ranks gone by kept m codes₀ answers₀ row₀ codes answers row =
     (row ≤ n) × (length codes ≡ 128) × (length answers ≡ length answers₀)
     × (answers ≡ fill row (answer n (beatsIn (termAt table term) columns rows group)) answers₀)
 
 abbrev μ-loop : tie.MeasureT-loop
-μ-loop table numbers ends reach marks exits term group columns rows n stride ranks gone by kept m codes₀ answers₀ row₀ codes answers row =
+μ-loop table ops ends reach marks exits term group columns rows n stride ranks gone by kept m codes₀ answers₀ row₀ codes answers row =
     n - row
 
 loop-holds : tie.Need-loop-holds Inv-loop μ-loop

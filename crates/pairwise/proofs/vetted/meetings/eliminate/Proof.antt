@@ -16,13 +16,13 @@ use Rattle.pairwise.proofs.vetted.meetings.eliminate.Statement.{stateme
 use Rattle.pairwise.proofs.vetted.meetings.eliminate.Tie as tie
 
 abbrev Inv-loop : tie.InvT-loop
-Inv-loop table numbers ends reach marks exits term group columns rows n stride ranks gone₀ by₀ codes₀ i₀ gone by codes i =
+Inv-loop table ops ends reach marks exits term group columns rows n stride ranks keys gone₀ by₀ codes₀ i₀ gone by codes i =
     (i ≤ n) × (length gone ≡ length gone₀) × (length by ≡ length by₀) × (length codes ≡ 128)
     × Rounds (beatsIn (termAt table term) columns rows group) n i gone
     × Beaten (beatsIn (termAt table term) columns rows group) n gone by
 
 abbrev μ-loop : tie.MeasureT-loop
-μ-loop table numbers ends reach marks exits term group columns rows n stride ranks gone₀ by₀ codes₀ i₀ gone by codes i =
+μ-loop table ops ends reach marks exits term group columns rows n stride ranks keys gone₀ by₀ codes₀ i₀ gone by codes i =
     n - i
 
 loop-holds : tie.Need-loop-holds Inv-loop μ-loop
@@ -40,6 +40,7 @@ round-or-skip-requires c κs =
       record { ofGone = v .1 ∙ p .1 .ofGone; ofBy = v .2 ∙ p .1 .ofBy; ofCodes = v .3 },
       v .4,
       v .5,
+      p .4,
     )
 
 add-i : tie.Need-add-i Inv-loop μ-loop

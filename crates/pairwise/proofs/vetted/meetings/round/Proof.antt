@@ -13,13 +13,13 @@ use Rattle.pairwise.proofs.vetted.meetings.round.Statement.{statement}
 use Rattle.pairwise.proofs.vetted.meetings.round.Tie as tie
 
 abbrev Inv-loop : tie.InvT-loop
-Inv-loop table numbers ends reach marks exits term group columns rows n stride ranks i gone₀ by₀ codes₀ j₀ gone by codes j =
+Inv-loop table ops ends reach marks exits term group columns rows n stride ranks keys i gone₀ by₀ codes₀ j₀ gone by codes j =
     (length gone ≡ length gone₀) × (length by ≡ length by₀) × (length codes ≡ 128)
     × Turn (beatsIn (termAt table term) columns rows group) n i j gone
     × Beaten (beatsIn (termAt table term) columns rows group) n gone by
 
 abbrev μ-loop : tie.MeasureT-loop
-μ-loop table numbers ends reach marks exits term group columns rows n stride ranks i gone₀ by₀ codes₀ j₀ gone by codes j =
+μ-loop table ops ends reach marks exits term group columns rows n stride ranks keys i gone₀ by₀ codes₀ j₀ gone by codes j =
     n - j
 
 add-j : tie.Need-add-j Inv-loop μ-loop
@@ -41,6 +41,7 @@ meet-requires c κs =
       record { ofGone = v .0 ∙ p .2 .ofGone; ofBy = v .1 ∙ p .2 .ofBy; ofCodes = v .2 },
       v .3,
       v .4,
+      p .5,
     )
 
 cast-by : tie.Need-cast-by Inv-loop μ-loop

@@ -1,0 +1,2 @@
+-- That the entries stand once they are put.
+pub mod Put

@@ -1,0 +1,2 @@
+-- What each record does.
+pub mod Ops
