@@ -383,8 +383,8 @@ fn prepared(
     let a = numbers(table);
     let e = run_ends(table);
     let g = closures(table, &e);
-    let marks = beneath(table, &a, term);
     let x = exits(table, &a, term);
+    let marks = beneath(table, &a, &x, term);
     fill_values(columns, rows, n, cells);
     fill_ranks(table, &a, &e, &marks, term, columns, rows, n, stride, ranks);
     by_blocks(
@@ -413,7 +413,7 @@ fn by_blocks(
     ends: &[u8; 128],
     reach: &[[bool; 32]; 256],
     marks: &[bool; 128],
-    exits: &[u8; 512],
+    exits: &[u8; 128],
     term: u8,
     group: u8,
     columns: usize,
@@ -478,7 +478,7 @@ fn named(
     ends: &[u8; 128],
     reach: &[[bool; 32]; 256],
     marks: &[bool; 128],
-    exits: &[u8; 512],
+    exits: &[u8; 128],
     term: u8,
     group: u8,
     columns: usize,

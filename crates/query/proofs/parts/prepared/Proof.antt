@@ -17,28 +17,28 @@ closures-requires c κs =
     let e = c .before in
     (vetted (e .before .before .before .before .pre .0 .taken), e .run-ends .ensures)
 
-beneath-requires : tie.Need-beneath-requires
-beneath-requires c κs =
-    let a = c .before .before .before .before in
-    let t = a .before .before .before .pre .0 .taken in
-    (term-below t, a .numbers .ensures, parts-low _ _ _ (t .isAccepted) (t .below))
-
 exits-requires : tie.Need-exits-requires
 exits-requires c κs =
-    let a = c .before .before .before .before .before .before in
+    let a = c .before .before .before .before in
     let t = a .before .before .before .pre .0 .taken in
     record { columns = _; taken = t; prepared = a .numbers .ensures }
 
+beneath-requires : tie.Need-beneath-requires
+beneath-requires c κs =
+    let a = c .before .before .before .before .before .before .before in
+    let t = a .before .before .before .pre .0 .taken in
+    (term-below t, a .numbers .ensures, parts-low _ _ _ (t .isAccepted) (t .below))
+
 fill-values-requires : tie.Need-fill-values-requires
 fill-values-requires c κs =
-    let s = c .before .before .before .before .before .before .before .before .before .before .before in
+    let s = c .before .before .before .before .before .before .before .before .before .before .before .before in
     let w = s .pre .0 in
     (w .run, few-columns (w .taken), w .few, s .pre .3)
 
 fill-ranks-requires : tie.Need-fill-ranks-requires
 fill-ranks-requires c κs =
-    let m = c .before .before .before .before .before .before .before .before .before in
-    let e = m .before .before .before .before in
+    let m = c .before .before .before .before .before .before .before in
+    let e = m .before .before .before .before .before .before .before in
     let a = e .before in
     let s = a .before .before .before in
     rankable (s .pre .0) (s .pre .1) (a .numbers .ensures) (e .run-ends .ensures) (m .beneath .ensures) (s .pre .2)
@@ -49,9 +49,9 @@ by-blocks-requires c κs =
     let r = q .before in
     let w = r .before .before .before .before .before in
     let v = w .before in
-    let x = v .before .before in
-    let m = x .before .before in
-    let g = m .before .before in
+    let m = v .before .before in
+    let x = m .before .before .before in
+    let g = x .before .before in
     let e = g .before .before in
     let a = e .before in
     let s = a .before .before .before in (
@@ -80,8 +80,8 @@ prepared-spec =
     numbers-requires
     run-ends-requires
     closures-requires
-    beneath-requires
     exits-requires
+    beneath-requires
     fill-values-requires
     fill-ranks-requires
     by-blocks-requires
