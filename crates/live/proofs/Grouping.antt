@@ -12,12 +12,13 @@ use Rattle.model.specs.Search.{anyBelow}
 use Rattle.model.specs.Bytes.{eqZ}
 use Rattle.model.specs.Better.{cell}
 use Rattle.model.specs.Query.{rowAt}
-use Rattle.laws.specs.Search.{none-i}
+use Rattle.laws.specs.Search.{none-i, none-e}
 use Rattle.cells.specs.Group.{differs, differs-none, differs-left, equal-in-below}
+use Rattle.cells.specs.Keys.{Keyed}
 use Rattle.cells.specs.Values.{Valued}
 use Rattle.cells.specs.Places.{row-length}
 use Rattle.lanes.specs.Wrote.{Wrote}
-use Rattle.live.specs.Live.{lit, free, pending, freeLane, pendingLane, equalLane}
+use Rattle.live.specs.Live.{lit, free, pending, freeLane, pendingLane, equalLane, keyLane}
 use Rattle.live.specs.Alive.{Columned, Grouped, Alive, Above, Beyond}
 use Rattle.live.proofs.Stored.{any-step, lit-byte}
 
@@ -38,6 +39,11 @@ lit-equal : (old : List ℕ) (v : ℤ) (values : List ℤ) (at : ℕ) (new : Lis
     → lit new j ≡ (lit old j && eqZ v (getD values (at + j) (pos 0)))
 unfolding equalLane
 lit-equal old v values at new r j l = lit-byte new j (lit old j && eqZ v (getD values (at + j) (pos 0))) (r .made j l)
+
+absorb : (a k d : Bool) → (d ≡ true → k ≡ true) → ((a && k) && d) ≡ (a && d)
+absorb true k true e = rw (e refl)
+absorb true k false e = and-false k
+absorb false k d e = refl
 
 not-or : (a b : Bool) → not (a || b) ≡ (not a && not b)
 not-or true b = refl
@@ -113,6 +119,47 @@ module _ (group columns : ℕ) (rows : List ℤ) (n i b : ℕ) (first : List ℕ
           none-i columns (apart j)
           (λ c h t. let f = differs-none (rowAt columns rows i) (rowAt columns rows (b * 64 + j)) c in
           false≢true (sym (rw (sym e) at f) ∙ t))
+
+  -- ---- the lanes of row i's key first
+
+  module _ (keys : List ℕ) (mid : List ℕ) (run : length rows ≡ n * columns) (narrow : columns ≤ 8) (row : i < n)
+      (keyed : Keyed group columns rows n keys) (old : List ℕ)
+      (wrote : Wrote 0 (keyLane first (getD keys i 0) keys (b * 64)) 0 64 old mid) where
+    abbrev same : ℕ → Bool
+    same j = eqb (getD keys i 0) (getD keys (b * 64 + j) 0)
+
+    lit-key : (j : ℕ) → j < 64 → lit mid j ≡ (lit first j && same j)
+    unfolding keyLane
+    lit-key j l = lit-byte mid j (lit first j && same j) (wrote .made j l)
+
+    -- A row of the group has row i's key.
+    of-group : (j : ℕ) → b * 64 + j < n → not (anyBelow columns (apart j)) ≡ true → same j ≡ true
+    of-group j k e =
+        eq-eqb (getD keys i 0) (getD keys (b * 64 + j) 0)
+        (keyed .each i (b * 64 + j) row k
+        (equal-in-below group columns (rowAt columns rows i) (rowAt columns rows (b * 64 + j))
+        (row-length columns rows n run i row) (row-length columns rows n run (b * 64 + j) k) narrow ∙ e))
+
+    absorbed : (j : ℕ) → b * 64 + j < n
+        → ((lit first j && same j) && not (anyBelow columns (apart j))) ≡ (lit first j && not (anyBelow columns (apart j)))
+    absorbed j k = absorb (lit first j) (same j) (not (anyBelow columns (apart j))) (of-group j k)
+
+    pub grouped-keyed : (new : List ℕ) → Grouped group columns rows n i b columns mid new
+        → Grouped group columns rows n i b columns first new
+    grouped-keyed new r =
+        record {
+          on = λ j h k. r .on j h k ∙ rw (lit-key j h) (absorbed j k);
+          off = λ j h z. r .off j h (lit-key j h ∙ rw z);
+        }
+
+    -- No lane has row i's key.
+    pub grouped-dark : anyBelow 64 (lit mid) ≡ false → Grouped group columns rows n i b columns first mid
+    grouped-dark e =
+        record {
+          on = λ j h k. let out = none-e 64 (lit mid) e j h in
+              out ∙ sym (sym (absorbed j k) ∙ rw (sym (lit-key j h) ∙ out));
+          off = λ j h z. lit-key j h ∙ rw z;
+        }
 
   -- After all columns the lanes of the group are lit.
   pub alive : (pass : ℕ → Bool) (live : List ℕ) → length rows ≡ n * columns → columns ≤ 8 → i < n

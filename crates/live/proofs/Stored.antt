@@ -11,7 +11,7 @@ use lib.ListN.{getD}
 use mir.Val.{boolByte}
 use Rattle.model.specs.Search.{anyBelow}
 use Rattle.model.specs.Bytes.{eqZ}
-use Rattle.live.specs.Live.{lit, hit, equalLane, goneLane, nameLane}
+use Rattle.live.specs.Live.{lit, hit, equalLane, keyLane, goneLane, nameLane}
 
 -- Some lane below j + 1.
 pub any-step : (p : ℕ → Bool) (j : ℕ) → anyBelow (j + 1) p ≡ (anyBelow j p || p j)
@@ -46,6 +46,11 @@ pub equal-is : (live : List ℕ) (v : ℤ) (values : List ℤ) (at j : ℕ) {x :
     → s ≡ eqZ v (getD values (at + j) (pos 0)) → boolByte (eqb x 1 && s) ≡ equalLane live v values at j
 unfolding equalLane lit
 equal-is live v values at j e q = rw (e, q)
+
+pub key-is : (live : List ℕ) (key : ℕ) (keys : List ℕ) (at j : ℕ) {x : ℕ} → x ≡ getD live j 0
+    → boolByte (eqb x 1 && eqb key (getD keys (at + j) 0)) ≡ keyLane live key keys at j
+unfolding keyLane lit
+key-is live key keys at j e = rw e
 
 -- A lane with the byte of a test is lit where the test holds.
 pub lit-byte : (live : List ℕ) (j : ℕ) (b : Bool) → getD live (0 + j) 0 ≡ boolByte b → lit live j ≡ b

@@ -26,6 +26,10 @@ pendingLane gone by at j = boolByte (pending gone by at j)
 unfoldable pub lit : List ℕ → ℕ → Bool
 lit live j = eqb (getD live j 0) 1
 
+-- Lit where it was and the key is the one given.
+unfoldable pub keyLane : List ℕ → ℕ → List ℕ → ℕ → ℕ → ℕ
+keyLane live key keys at j = boolByte (lit live j && eqb key (getD keys (at + j) 0))
+
 unfoldable pub equalLane : List ℕ → ℤ → List ℤ → ℕ → ℕ → ℕ
 equalLane live v values at j = boolByte (lit live j && eqZ v (getD values (at + j) (pos 0)))
 

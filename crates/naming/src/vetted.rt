@@ -11,6 +11,7 @@ ghost use lib.ListN.{length, getD};
 ghost use Rattle.model.specs.Term.{termAt};
 ghost use Rattle.model.specs.Query.{beatsIn};
 ghost use Rattle.elimination.specs.Elimination.{Settled};
+ghost use Rattle.cells.specs.Keys.{Keyed};
 ghost use Rattle.live.specs.Alive.{Beyond};
 ghost use Rattle.blocks.specs.Blocks.{Ready};
 ghost use Rattle.naming.specs.Naming.{Naming, Named};
@@ -31,6 +32,7 @@ pub fn name(
     stride: usize,
     ranks: &[i32],
     values: &[i32],
+    keys: &[u8; 1024],
     gone: &[u8],
     by: &mut [u16],
     codes: &mut [u8],
@@ -39,7 +41,8 @@ pub fn name(
         × (length (now gone) ≡ 1024) × (length (now by) ≡ 1024) × (8192 ≤ length (now codes))
         × Settled (beatsIn (termAt (now table) term) columns (now rows) group) n (now gone)
         × Beyond n (now by)
-        × Named (beatsIn (termAt (now table) term) columns (now rows) group) n 0 (now by) ⌝ }
+        × Named (beatsIn (termAt (now table) term) columns (now rows) group) n 0 (now by)
+        × Keyed group columns (now rows) n (now keys) ⌝ }
     ensures { λ _. ⌜ Named (beatsIn (termAt (now (table .entry)) term) columns (now (rows .entry)) group) n n (now (by .exit)) ⌝ }
 {
     let mut i = 0;
@@ -59,6 +62,7 @@ pub fn name(
             stride,
             ranks,
             values,
+            keys,
             i,
             gone,
             by,
@@ -84,6 +88,7 @@ fn name_or_skip(
     stride: usize,
     ranks: &[i32],
     values: &[i32],
+    keys: &[u8; 1024],
     i: usize,
     gone: &[u8],
     by: &mut [u16],
@@ -93,7 +98,8 @@ fn name_or_skip(
         × (i < n) × (length (now gone) ≡ 1024) × (length (now by) ≡ 1024) × (8192 ≤ length (now codes))
         × Settled (beatsIn (termAt (now table) term) columns (now rows) group) n (now gone)
         × Beyond n (now by)
-        × Named (beatsIn (termAt (now table) term) columns (now rows) group) n i (now by) ⌝ }
+        × Named (beatsIn (termAt (now table) term) columns (now rows) group) n i (now by)
+        × Keyed group columns (now rows) n (now keys) ⌝ }
     ensures { λ _. ⌜ Named (beatsIn (termAt (now (table .entry)) term) columns (now (rows .entry)) group) n (i + 1) (now (by .exit))
         × Beyond n (now (by .exit)) ⌝ }
 {
@@ -113,6 +119,7 @@ fn name_or_skip(
             stride,
             ranks,
             values,
+            keys,
             i,
             gone,
             by,
@@ -137,6 +144,7 @@ fn name_row(
     stride: usize,
     ranks: &[i32],
     values: &[i32],
+    keys: &[u8; 1024],
     i: usize,
     gone: &[u8],
     by: &mut [u16],
@@ -146,7 +154,8 @@ fn name_row(
         × (i < n) × (length (now gone) ≡ 1024) × (length (now by) ≡ 1024) × (8192 ≤ length (now codes))
         × Settled (beatsIn (termAt (now table) term) columns (now rows) group) n (now gone)
         × (getD (now gone) i 0 ≡ 0) × Beyond n (now by)
-        × Named (beatsIn (termAt (now table) term) columns (now rows) group) n i (now by) ⌝ }
+        × Named (beatsIn (termAt (now table) term) columns (now rows) group) n i (now by)
+        × Keyed group columns (now rows) n (now keys) ⌝ }
     ensures { λ _. ⌜ Named (beatsIn (termAt (now (table .entry)) term) columns (now (rows .entry)) group) n (i + 1) (now (by .exit))
         × Beyond n (now (by .exit)) ⌝ }
 {
@@ -167,6 +176,7 @@ fn name_row(
             stride,
             ranks,
             values,
+            keys,
             i,
             b,
             gone,
@@ -193,6 +203,7 @@ fn name_block(
     stride: usize,
     ranks: &[i32],
     values: &[i32],
+    keys: &[u8; 1024],
     i: usize,
     b: usize,
     gone: &[u8],
@@ -203,12 +214,13 @@ fn name_block(
         × (i < n) × (b * 64 < n) × (length (now gone) ≡ 1024) × (length (now by) ≡ 1024) × (8192 ≤ length (now codes))
         × Settled (beatsIn (termAt (now table) term) columns (now rows) group) n (now gone)
         × (getD (now gone) i 0 ≡ 0) × Beyond n (now by)
-        × Naming (beatsIn (termAt (now table) term) columns (now rows) group) n i (b * 64) (now by) ⌝ }
+        × Naming (beatsIn (termAt (now table) term) columns (now rows) group) n i (b * 64) (now by)
+        × Keyed group columns (now rows) n (now keys) ⌝ }
     ensures { λ _. ⌜ Naming (beatsIn (termAt (now (table .entry)) term) columns (now (rows .entry)) group) n i (b * 64 + 64) (now (by .exit))
         × Beyond n (now (by .exit)) ⌝ }
 {
     let mut live = [0u8; 64];
-    pending_alive(group, columns, rows, n, values, i, b, gone, by, &mut live);
+    pending_alive(group, columns, rows, n, values, keys, i, b, gone, by, &mut live);
     if any_lit(&live) {
         block_codes(
             table,

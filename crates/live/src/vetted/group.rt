@@ -1,4 +1,5 @@
 // Lanes of row i's group: lit lanes are put out where the row differs from row i in a column of the group.
+use crate::vetted::lit::any_lit;
 use crate::vetted::lit::free_lanes;
 use crate::vetted::lit::pending_lanes;
 ghost use mathlib.Core.Path.{_≡_};
@@ -6,7 +7,8 @@ ghost use Prim.Native.Nat.{_+_, _*_, _≤_, _<_};
 ghost use lib.ListN.{length};
 ghost use Rattle.cells.specs.Values.{Room, Valued};
 ghost use Rattle.lanes.specs.Wrote.{Wrote};
-ghost use Rattle.live.specs.Live.{equalLane, free, pending};
+ghost use Rattle.cells.specs.Keys.{Keyed};
+ghost use Rattle.live.specs.Live.{keyLane, equalLane, free, pending};
 ghost use Rattle.live.specs.Alive.{Cells, Columned, Grouped, Alive, Above, Beyond};
 
 // The rows of block b that are not gone, in row i's group.
@@ -16,16 +18,17 @@ pub fn free_alive(
     rows: &[i32],
     n: usize,
     values: &[i32],
+    keys: &[u8; 1024],
     i: usize,
     b: usize,
     gone: &[u8],
     live: &mut [u8],
 )
-    requires { ⌜ Cells columns (now rows) n (now values) × (i < n) × (b * 64 < n) × (64 ≤ length (now live)) × (length (now gone) ≡ 1024) × Above n (now gone) ⌝ }
+    requires { ⌜ Cells columns (now rows) n (now values) × (i < n) × (b * 64 < n) × (64 ≤ length (now live)) × (length (now gone) ≡ 1024) × Above n (now gone) × Keyed group columns (now rows) n (now keys) ⌝ }
     ensures { λ _. ⌜ Alive group columns (now (rows .entry)) n i b (free (now (gone .entry)) (b * 64)) (now (live .exit)) ⌝ }
 {
     free_lanes(gone, b * 64, live);
-    group_lanes(group, columns, rows, n, values, i, b, live);
+    group_lanes(group, columns, rows, n, values, keys, i, b, live);
 }
 
 // The rows of block b that are gone and have no name, in row i's group.
@@ -35,21 +38,59 @@ pub fn pending_alive(
     rows: &[i32],
     n: usize,
     values: &[i32],
+    keys: &[u8; 1024],
     i: usize,
     b: usize,
     gone: &[u8],
     by: &[u16],
     live: &mut [u8],
 )
-    requires { ⌜ Cells columns (now rows) n (now values) × (i < n) × (b * 64 < n) × (64 ≤ length (now live)) × (length (now gone) ≡ 1024) × (length (now by) ≡ 1024) × Beyond n (now by) ⌝ }
+    requires { ⌜ Cells columns (now rows) n (now values) × (i < n) × (b * 64 < n) × (64 ≤ length (now live)) × (length (now gone) ≡ 1024) × (length (now by) ≡ 1024) × Beyond n (now by) × Keyed group columns (now rows) n (now keys) ⌝ }
     ensures { λ _. ⌜ Alive group columns (now (rows .entry)) n i b (pending (now (gone .entry)) (now (by .entry)) (b * 64)) (now (live .exit)) ⌝ }
 {
     pending_lanes(gone, by, b * 64, live);
-    group_lanes(group, columns, rows, n, values, i, b, live);
+    group_lanes(group, columns, rows, n, values, keys, i, b, live);
 }
 
-// Puts out the lanes that are not in row i's group.
+// Puts out the lanes that are not in row i's group. Rows of one group have one key, so that most blocks are left at once where
+// groups are many.
 fn group_lanes(
+    group: u8,
+    columns: usize,
+    rows: &[i32],
+    n: usize,
+    values: &[i32],
+    keys: &[u8; 1024],
+    i: usize,
+    b: usize,
+    live: &mut [u8],
+)
+    requires { ⌜ Cells columns (now rows) n (now values) × (i < n) × (b * 64 < n) × (64 ≤ length (now live)) × Keyed group columns (now rows) n (now keys) ⌝ }
+    ensures { λ _. ⌜ Grouped group columns (now (rows .entry)) n i b columns (now (live .entry)) (now (live .exit)) ⌝ }
+{
+    if group == 0 {
+        return;
+    }
+    key_lanes(keys, b * 64, keys[i], live);
+    if any_lit(live) {
+        column_lanes(group, columns, rows, n, values, i, b, live);
+    }
+}
+
+// Lit where it was and the key is the one given.
+fn key_lanes(keys: &[u8; 1024], at: usize, key: u8, live: &mut [u8])
+    requires { ⌜ (at + 64 ≤ 1024) × (64 ≤ length (now live)) ⌝ }
+    ensures { λ _. ⌜ Wrote 0 (keyLane (now (live .entry)) key (now (keys .entry)) at) 0 64 (now (live .entry)) (now (live .exit)) ⌝ }
+{
+    let mut j = 0;
+    while j < 64 {
+        live[j] = ((live[j] == 1) & (key == keys[at + j])) as u8;
+        j += 1;
+    }
+}
+
+// Puts out the lanes that differ from row i in a column of the group.
+fn column_lanes(
     group: u8,
     columns: usize,
     rows: &[i32],
@@ -62,9 +103,6 @@ fn group_lanes(
     requires { ⌜ Cells columns (now rows) n (now values) × (i < n) × (b * 64 < n) × (64 ≤ length (now live)) ⌝ }
     ensures { λ _. ⌜ Grouped group columns (now (rows .entry)) n i b columns (now (live .entry)) (now (live .exit)) ⌝ }
 {
-    if group == 0 {
-        return;
-    }
     let mut left = group;
     let mut c = 0;
     while c < columns {

@@ -10,6 +10,7 @@ ghost use lib.ListN.{length};
 ghost use Rattle.model.specs.Term.{termAt};
 ghost use Rattle.model.specs.Query.{beatsIn};
 ghost use Rattle.elimination.specs.Elimination.{Rounds, Turn, Met, Settled};
+ghost use Rattle.cells.specs.Keys.{Keyed};
 ghost use Rattle.live.specs.Alive.{Above};
 ghost use Rattle.blocks.specs.Blocks.{Ready};
 
@@ -29,12 +30,14 @@ pub fn eliminate(
     stride: usize,
     ranks: &[i32],
     values: &[i32],
+    keys: &[u8; 1024],
     gone: &mut [u8],
     codes: &mut [u8],
 )
     requires { ⌜ Ready (now table) (now numbers) (now ends) (now reach) (now marks) (now exits) term columns (now rows) n stride (now ranks) (now values)
         × (length (now gone) ≡ 1024) × (8192 ≤ length (now codes)) × Above n (now gone)
-        × Rounds (beatsIn (termAt (now table) term) columns (now rows) group) n 0 (now gone) ⌝ }
+        × Rounds (beatsIn (termAt (now table) term) columns (now rows) group) n 0 (now gone)
+        × Keyed group columns (now rows) n (now keys) ⌝ }
     ensures { λ _. ⌜ Settled (beatsIn (termAt (now (table .entry)) term) columns (now (rows .entry)) group) n (now (gone .exit)) ⌝ }
 {
     let mut i = 0;
@@ -54,6 +57,7 @@ pub fn eliminate(
             stride,
             ranks,
             values,
+            keys,
             i,
             gone,
             codes,
@@ -78,13 +82,15 @@ fn round_or_skip(
     stride: usize,
     ranks: &[i32],
     values: &[i32],
+    keys: &[u8; 1024],
     i: usize,
     gone: &mut [u8],
     codes: &mut [u8],
 )
     requires { ⌜ Ready (now table) (now numbers) (now ends) (now reach) (now marks) (now exits) term columns (now rows) n stride (now ranks) (now values)
         × (i < n) × (length (now gone) ≡ 1024) × (8192 ≤ length (now codes)) × Above n (now gone)
-        × Rounds (beatsIn (termAt (now table) term) columns (now rows) group) n i (now gone) ⌝ }
+        × Rounds (beatsIn (termAt (now table) term) columns (now rows) group) n i (now gone)
+        × Keyed group columns (now rows) n (now keys) ⌝ }
     ensures { λ _. ⌜ Rounds (beatsIn (termAt (now (table .entry)) term) columns (now (rows .entry)) group) n (i + 1) (now (gone .exit))
         × Above n (now (gone .exit)) ⌝ }
 {
@@ -104,6 +110,7 @@ fn round_or_skip(
             stride,
             ranks,
             values,
+            keys,
             i,
             gone,
             codes,
@@ -127,13 +134,15 @@ fn round(
     stride: usize,
     ranks: &[i32],
     values: &[i32],
+    keys: &[u8; 1024],
     i: usize,
     gone: &mut [u8],
     codes: &mut [u8],
 )
     requires { ⌜ Ready (now table) (now numbers) (now ends) (now reach) (now marks) (now exits) term columns (now rows) n stride (now ranks) (now values)
         × (i < n) × (length (now gone) ≡ 1024) × (8192 ≤ length (now codes)) × Above n (now gone)
-        × Rounds (beatsIn (termAt (now table) term) columns (now rows) group) n i (now gone) ⌝ }
+        × Rounds (beatsIn (termAt (now table) term) columns (now rows) group) n i (now gone)
+        × Keyed group columns (now rows) n (now keys) ⌝ }
     ensures { λ _. ⌜ Rounds (beatsIn (termAt (now (table .entry)) term) columns (now (rows .entry)) group) n (i + 1) (now (gone .exit))
         × Above n (now (gone .exit)) ⌝ }
 {
@@ -154,6 +163,7 @@ fn round(
             stride,
             ranks,
             values,
+            keys,
             i,
             b,
             gone,
@@ -183,6 +193,7 @@ fn meet_block(
     stride: usize,
     ranks: &[i32],
     values: &[i32],
+    keys: &[u8; 1024],
     i: usize,
     b: usize,
     gone: &mut [u8],
@@ -190,12 +201,13 @@ fn meet_block(
 ) -> bool
     requires { ⌜ Ready (now table) (now numbers) (now ends) (now reach) (now marks) (now exits) term columns (now rows) n stride (now ranks) (now values)
         × (i < n) × (b * 64 < n) × (length (now gone) ≡ 1024) × (8192 ≤ length (now codes)) × Above n (now gone)
-        × Turn (beatsIn (termAt (now table) term) columns (now rows) group) n i (b * 64) (now gone) ⌝ }
+        × Turn (beatsIn (termAt (now table) term) columns (now rows) group) n i (b * 64) (now gone)
+        × Keyed group columns (now rows) n (now keys) ⌝ }
     ensures { λ r. ⌜ Met (beatsIn (termAt (now (table .entry)) term) columns (now (rows .entry)) group) n i (b * 64 + 64) (now (gone .exit)) r
         × Above n (now (gone .exit)) ⌝ }
 {
     let mut live = [0u8; 64];
-    free_alive(group, columns, rows, n, values, i, b, gone, &mut live);
+    free_alive(group, columns, rows, n, values, keys, i, b, gone, &mut live);
     if any_lit(&live) {
         block_codes(
             table,

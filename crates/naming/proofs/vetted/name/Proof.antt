@@ -14,12 +14,12 @@ use Rattle.naming.proofs.vetted.name.Statement.{statement}
 use Rattle.naming.proofs.vetted.name.Tie as tie
 
 abbrev Inv-loop : tie.InvT-loop
-Inv-loop table numbers ends reach marks exits term group columns rows n stride ranks values gone by₀ codes₀ i₀ by codes i =
+Inv-loop table numbers ends reach marks exits term group columns rows n stride ranks values keys gone by₀ codes₀ i₀ by codes i =
     (i ≤ n) × (length by ≡ length by₀) × (length codes ≡ length codes₀)
     × Named (beatsIn (termAt table term) columns rows group) n i by × Beyond n by
 
 abbrev μ-loop : tie.MeasureT-loop
-μ-loop table numbers ends reach marks exits term group columns rows n stride ranks values gone by₀ codes₀ i₀ by codes i = n - i
+μ-loop table numbers ends reach marks exits term group columns rows n stride ranks values keys gone by₀ codes₀ i₀ by codes i = n - i
 
 loop-holds : tie.Need-loop-holds Inv-loop μ-loop
 loop-holds c =
@@ -31,7 +31,7 @@ name-or-skip-requires c κs =
     let s = c .before .before .before in
     let p = s .before .before .before .before .before .pre in
     let v = s .loop .inv in
-    (p .0, search needs, p .1, omega arith, omega arith, p .4, v .4, v .3)
+    (p .0, search needs, p .1, omega arith, omega arith, p .4, v .4, v .3, p .7)
 
 add-i : tie.Need-add-i Inv-loop μ-loop
 add-i c = search needs

@@ -13,7 +13,7 @@ slice-aggregate-pending-alive c = search needs
 pending-alive-requires : tie.Need-pending-alive-requires
 pending-alive-requires c κs =
     let p = c .before .before .before .before .before .before .pre in
-    (cells (p .0), p .1, p .2, search needs, p .3, p .4, p .8)
+    (cells (p .0), p .1, p .2, search needs, p .3, p .4, p .8, p .10)
 
 slice-aggregate-any-lit : tie.Need-slice-aggregate-any-lit
 slice-aggregate-any-lit c = search needs

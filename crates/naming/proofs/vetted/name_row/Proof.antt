@@ -14,12 +14,12 @@ use Rattle.naming.proofs.vetted.name_row.Statement.{statement}
 use Rattle.naming.proofs.vetted.name_row.Tie as tie
 
 abbrev Inv-loop : tie.InvT-loop
-Inv-loop table numbers ends reach marks exits term group columns rows n stride ranks values i gone by₀ codes₀ b₀ by codes b =
+Inv-loop table numbers ends reach marks exits term group columns rows n stride ranks values keys i gone by₀ codes₀ b₀ by codes b =
     (b ≤ 16) × (length by ≡ length by₀) × (length codes ≡ length codes₀)
     × Naming (beatsIn (termAt table term) columns rows group) n i (b * 64) by × Beyond n by
 
 abbrev μ-loop : tie.MeasureT-loop
-μ-loop table numbers ends reach marks exits term group columns rows n stride ranks values i gone by₀ codes₀ b₀ by codes b = n - b * 64
+μ-loop table numbers ends reach marks exits term group columns rows n stride ranks values keys i gone by₀ codes₀ b₀ by codes b = n - b * 64
 
 loop-holds : tie.Need-loop-holds Inv-loop μ-loop
 loop-holds c =
@@ -34,7 +34,7 @@ name-block-requires c κs =
     let s = c .before .before .before in
     let p = s .before .before .before .before .before .pre in
     let v = s .loop .inv in
-    (p .0, p .1, search needs, p .2, omega arith, omega arith, p .5, p .6, v .4, v .3)
+    (p .0, p .1, search needs, p .2, omega arith, omega arith, p .5, p .6, v .4, v .3, p .9)
 
 add-b : tie.Need-add-b Inv-loop μ-loop
 add-b c = search needs

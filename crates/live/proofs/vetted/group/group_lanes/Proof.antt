@@ -1,71 +1,60 @@
--- `live::vetted::group::group_lanes` meets its contract: the columns below c. Assumes nothing.
-use mathlib.Core.Path.{_≡_, refl}
-use Prim.Native.Nat.{_-_, _/_, _^_, _≤_}
-use native.Mathlib.Omega.{arith}
-use native.Mathlib.Nat.{le-antisymm}
-use lib.ListN.{length}
+-- `live::vetted::group::group_lanes` meets its contract. Assumes nothing.
+use mathlib.Core.Path.{sym, _∙_}
 use borrow.Author.Needs.{needs}
-use Rattle.cells.specs.Group.{left-none, left-more}
-use Rattle.live.specs.Alive.{Grouped}
-use Rattle.live.proofs.Grouping.{grouped-none, grouped-more, grouped-all}
+use Rattle.live.proofs.Grouping.{grouped-all, grouped-keyed, grouped-dark}
 use Rattle.live.proofs.vetted.group.group_lanes.Statement.{statement}
 use Rattle.live.proofs.vetted.group.group_lanes.Tie as tie
 
-abbrev Inv-loop : tie.InvT-loop
-Inv-loop group columns rows n values i b live₀ left₀ c₀ live left c =
-    (c ≤ columns) × (length live ≡ length live₀) × (left ≡ group / 2 ^ c) × Grouped group columns rows n i b c live₀ live
-
-abbrev μ-loop : tie.MeasureT-loop
-μ-loop group columns rows n values i b live₀ left₀ c₀ live left c = columns - c
-
-returns : tie.Need-returns Inv-loop μ-loop
+returns : tie.Need-returns
 returns c = grouped-all _ _ _ _ _ _ _ (c .if1 .taken)
 
-loop-holds : tie.Need-loop-holds Inv-loop μ-loop
-loop-holds c = (search needs, refl, left-none _, grouped-none _ _ _ _ _ _ _)
+mul-key-lanes : tie.Need-mul-key-lanes
+mul-key-lanes c = search needs
 
-group-column-requires : tie.Need-group-column-requires Inv-loop μ-loop
-group-column-requires c κs =
-    let l = c .before .before in
-    let p = l .before .before .before .pre in
-    (p .0, p .1, p .2, c .before .loop-test .taken, omega (arith, p .3, l .loop .inv .1))
+element-copy-out-key-lanes : tie.Need-element-copy-out-key-lanes
+element-copy-out-key-lanes c = search needs
 
-add-c : tie.Need-add-c Inv-loop μ-loop
-add-c c = search needs
+key-lanes-requires : tie.Need-key-lanes-requires
+key-lanes-requires c κs = search needs
 
-loop-less : tie.Need-loop-less Inv-loop μ-loop
-loop-less c = search needs
+any-lit-requires : tie.Need-any-lit-requires
+any-lit-requires c κs = search needs
 
-loop-again : tie.Need-loop-again Inv-loop μ-loop
-loop-again c =
-    let s = c .before .before .before .before .before in
-    let v = s .loop .inv in (
-      omega arith,
-      omega arith,
-      left-more _ _ (v .2),
-      grouped-more _ _ _ _ _ _ _ _ _ _ _ (v .2) (v .3) (c .before .before .group-column .ensures),
-    )
+column-lanes-requires : tie.Need-column-lanes-requires
+column-lanes-requires c κs = search needs
 
-same-length : tie.Need-same-length Inv-loop μ-loop
+same-length : tie.Need-same-length
 same-length c = search needs
 
-returns-2 : tie.Need-returns-2 Inv-loop μ-loop
+returns-2 : tie.Need-returns-2
 returns-2 c =
-    let v = c .before .loop .inv in
-    let q = le-antisymm (v .0) (c .loop-test .left) in
-    rw q at (v .3)
+    let k = c .before .before .before .before .before .before .before .before .before in
+    let p = k .before .before .before .before .before .pre in
+    grouped-keyed _ _ _ _ _ _ _ _ _ (p .0 .run) (p .0 .narrow) (p .1) (p .4) _ (k .key-lanes .ensures) _
+    (c .before .before .column-lanes .ensures)
+
+same-length-2 : tie.Need-same-length-2
+same-length-2 c = search needs
+
+returns-3 : tie.Need-returns-3
+returns-3 c =
+    let y = c .before in
+    let k = y .before .before .before .before in
+    let p = k .before .before .before .before .before .pre in
+    grouped-dark _ _ _ _ _ _ _ _ _ (p .0 .run) (p .0 .narrow) (p .1) (p .4) _ (k .key-lanes .ensures)
+    (sym (y .any-lit .ensures) ∙ c .if2 .left)
 
 pub group-lanes-spec : {M : Type 1} → statement M
 group-lanes-spec =
     tie.close
     (tie.spec
-    Inv-loop
-    μ-loop
     returns
-    loop-holds
-    group-column-requires
-    add-c
-    loop-less
-    loop-again
+    mul-key-lanes
+    element-copy-out-key-lanes
+    key-lanes-requires
+    any-lit-requires
+    column-lanes-requires
     same-length
-    returns-2)
+    returns-2
+    same-length-2
+    returns-3)

@@ -15,12 +15,12 @@ use Rattle.rounds.proofs.vetted.meetings.eliminate.Statement.{statement
 use Rattle.rounds.proofs.vetted.meetings.eliminate.Tie as tie
 
 abbrev Inv-loop : tie.InvT-loop
-Inv-loop table numbers ends reach marks exits term group columns rows n stride ranks values gone₀ codes₀ i₀ gone codes i =
+Inv-loop table numbers ends reach marks exits term group columns rows n stride ranks values keys gone₀ codes₀ i₀ gone codes i =
     (i ≤ n) × (length gone ≡ length gone₀) × (length codes ≡ length codes₀)
     × Rounds (beatsIn (termAt table term) columns rows group) n i gone × Above n gone
 
 abbrev μ-loop : tie.MeasureT-loop
-μ-loop table numbers ends reach marks exits term group columns rows n stride ranks values gone₀ codes₀ i₀ gone codes i = n - i
+μ-loop table numbers ends reach marks exits term group columns rows n stride ranks values keys gone₀ codes₀ i₀ gone codes i = n - i
 
 loop-holds : tie.Need-loop-holds Inv-loop μ-loop
 loop-holds c =
@@ -32,7 +32,7 @@ round-or-skip-requires c κs =
     let s = c .before .before .before in
     let p = s .before .before .before .before .pre in
     let v = s .loop .inv in
-    (p .0, search needs, omega arith, omega arith, v .4, v .3)
+    (p .0, search needs, omega arith, omega arith, v .4, v .3, p .5)
 
 add-i : tie.Need-add-i Inv-loop μ-loop
 add-i c = search needs

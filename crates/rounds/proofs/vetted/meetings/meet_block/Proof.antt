@@ -14,7 +14,7 @@ slice-aggregate-free-alive c = search needs
 free-alive-requires : tie.Need-free-alive-requires
 free-alive-requires c κs =
     let p = c .before .before .before .before .before .pre in
-    (cells (p .0), p .1, p .2, search needs, p .3, p .5)
+    (cells (p .0), p .1, p .2, search needs, p .3, p .5, p .7)
 
 slice-aggregate-any-lit : tie.Need-slice-aggregate-any-lit
 slice-aggregate-any-lit c = search needs

@@ -14,12 +14,12 @@ use Rattle.rounds.proofs.vetted.meetings.round.Statement.{statement}
 use Rattle.rounds.proofs.vetted.meetings.round.Tie as tie
 
 abbrev Inv-loop : tie.InvT-loop
-Inv-loop table numbers ends reach marks exits term group columns rows n stride ranks values i gone₀ codes₀ b₀ gone codes b =
+Inv-loop table numbers ends reach marks exits term group columns rows n stride ranks values keys i gone₀ codes₀ b₀ gone codes b =
     (b ≤ 16) × (length gone ≡ length gone₀) × (length codes ≡ length codes₀)
     × Turn (beatsIn (termAt table term) columns rows group) n i (b * 64) gone × Above n gone
 
 abbrev μ-loop : tie.MeasureT-loop
-μ-loop table numbers ends reach marks exits term group columns rows n stride ranks values i gone₀ codes₀ b₀ gone codes b = n - b * 64
+μ-loop table numbers ends reach marks exits term group columns rows n stride ranks values keys i gone₀ codes₀ b₀ gone codes b = n - b * 64
 
 add-b : tie.Need-add-b Inv-loop μ-loop
 add-b c = search needs
@@ -37,7 +37,7 @@ meet-block-requires c κs =
     let s = c .before .before .before in
     let p = s .before .before .before .before .pre in
     let v = s .loop .inv in
-    (p .0, p .1, search needs, omega arith, omega arith, v .4, v .3)
+    (p .0, p .1, search needs, omega arith, omega arith, v .4, v .3, p .6)
 
 slice-write-gone : tie.Need-slice-write-gone Inv-loop μ-loop
 slice-write-gone c = search needs
