@@ -220,7 +220,19 @@ fn name_block(
         × Beyond n (now (by .exit)) ⌝ }
 {
     let mut live = [0u8; 64];
-    pending_alive(group, columns, rows, n, values, keys, i, b, gone, by, &mut live);
+    pending_alive(
+        group,
+        columns,
+        rows,
+        n,
+        values,
+        keys,
+        i,
+        b,
+        gone,
+        by,
+        &mut live,
+    );
     if any_lit(&live) {
         block_codes(
             table,

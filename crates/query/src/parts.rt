@@ -1,6 +1,7 @@
 // The engine by parts: a wish's answers come from those of its parts. Ranks of every base record beneath the asked term once
 // per query; then for a row and a block of 64 rows one code per row and record, compounds from their parts' codes; rows that
 // are beaten are gone; then the kept rows name the rows that they beat.
+use cells::vetted::keys::fill_keys;
 use cells::vetted::values::fill_values;
 use entries::vetted::none_gone;
 use entries::vetted::none_named;
@@ -20,6 +21,7 @@ ghost use Rattle.model.specs.Term.{termAt};
 ghost use Rattle.model.specs.Query.{beatsIn, rowCount};
 ghost use Rattle.laws.specs.Taken.{Taken};
 ghost use Rattle.elimination.specs.Elimination.{Settled};
+ghost use Rattle.cells.specs.Keys.{Keyed};
 ghost use Rattle.cells.specs.Values.{Room};
 ghost use Rattle.blocks.specs.Blocks.{Ready};
 ghost use Rattle.query.specs.Selected.{AskedRows, StrideFor, Selected};
@@ -429,6 +431,8 @@ fn by_blocks(
     ensures { λ r. ⌜ Selected (beatsIn (termAt (now (table .entry)) term) columns (now (rows .entry)) group) n
         (now (answers .entry)) (now (answers .exit)) r ⌝ }
 {
+    let mut keys = [0u8; 1024];
+    fill_keys(group, columns, rows, n, &mut keys);
     let mut codes = [0u8; 8192];
     let mut gone = [1u8; 1024];
     none_gone(n, &mut gone);
@@ -447,6 +451,7 @@ fn by_blocks(
         stride,
         ranks,
         values,
+        &keys,
         &mut gone,
         &mut codes,
     );
@@ -465,6 +470,7 @@ fn by_blocks(
         stride,
         ranks,
         values,
+        &keys,
         &gone,
         &mut codes,
         answers,
@@ -487,13 +493,15 @@ fn named(
     stride: usize,
     ranks: &[i32],
     values: &[i32],
+    keys: &[u8; 1024],
     gone: &[u8],
     codes: &mut [u8],
     answers: &mut [u16],
 ) -> u16
     requires { ⌜ Ready (now table) (now numbers) (now ends) (now reach) (now marks) (now exits) term columns (now rows) n stride
         (now ranks) (now values) × (length (now gone) ≡ 1024) × Settled (beatsIn (termAt (now table) term) columns (now rows) group) n (now gone)
-        × (8192 ≤ length (now codes)) × (n ≤ length (now answers)) ⌝ }
+        × (8192 ≤ length (now codes)) × (n ≤ length (now answers))
+        × Keyed group columns (now rows) n (now keys) ⌝ }
     ensures { λ r. ⌜ Selected (beatsIn (termAt (now (table .entry)) term) columns (now (rows .entry)) group) n
         (now (answers .entry)) (now (answers .exit)) r ⌝ }
 {
@@ -514,6 +522,7 @@ fn named(
         stride,
         ranks,
         values,
+        keys,
         gone,
         &mut by,
         codes,

@@ -1,8 +1,18 @@
 -- `query::parts::by_blocks` meets its contract. Assumes nothing.
+use native.Mathlib.Omega.{arith}
 use borrow.Author.Needs.{needs}
 use Rattle.entries.specs.Answers.{no-rounds, rest-gone}
+use Rattle.query.proofs.Taken.{few-columns}
 use Rattle.query.proofs.parts.by_blocks.Statement.{statement}
 use Rattle.query.proofs.parts.by_blocks.Tie as tie
+
+slice-aggregate-fill-keys : tie.Need-slice-aggregate-fill-keys
+slice-aggregate-fill-keys c = search needs
+
+fill-keys-requires : tie.Need-fill-keys-requires
+fill-keys-requires c κs =
+    let w = c .before .before .before .pre .0 in
+    (w .run, few-columns (w .taken), w .few)
 
 slice-aggregate-none-gone : tie.Need-slice-aggregate-none-gone
 slice-aggregate-none-gone c = search needs
@@ -18,10 +28,11 @@ slice-aggregate-eliminate-2 c = search needs
 
 eliminate-requires : tie.Need-eliminate-requires
 eliminate-requires c κs =
-    let z = c .before .before .before in
-    let s = z .before .before .before .before in
+    let z = c .before .before .before .before in
+    let k = z .before .before .before in
+    let s = k .before .before .before .before in
     let w = z .none-gone .ensures in
-    (s .pre .0, search needs, search needs, rest-gone _ _ w, no-rounds _ _ _ _ w)
+    (s .pre .0, search needs, search needs, rest-gone _ _ w, no-rounds _ _ _ _ w, k .fill-keys .ensures)
 
 slice-aggregate-named : tie.Need-slice-aggregate-named
 slice-aggregate-named c = search needs
@@ -31,9 +42,16 @@ slice-aggregate-named-2 c = search needs
 
 named-requires : tie.Need-named-requires
 named-requires c κs =
-    let e = c .before .before .before .before .before in
-    let s = e .before .before .before .before .before .before .before .before in
-    (s .pre .0, search needs, e .eliminate .ensures, search needs, s .pre .1)
+    let e = c .before .before .before .before .before .before in
+    let k = e .before .before .before .before .before .before .before .before in
+    let s = k .before .before .before .before in (
+      s .pre .0,
+      c .before .before .before .before .before .gone4 .given,
+      e .eliminate .ensures,
+      rw (c .before .before .before .before .codes2 .given) (omega arith),
+      s .pre .1,
+      k .fill-keys .ensures,
+    )
 
 same-length : tie.Need-same-length
 same-length c = search needs
@@ -45,6 +63,8 @@ pub by-blocks-spec : {M : Type 1} → statement M
 by-blocks-spec =
     tie.close
     (tie.spec
+    slice-aggregate-fill-keys
+    fill-keys-requires
     slice-aggregate-none-gone
     none-gone-requires
     slice-aggregate-eliminate

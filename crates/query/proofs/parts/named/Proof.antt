@@ -22,7 +22,7 @@ name-requires c κs =
     let z = c .before .before .before in
     let s = z .before .before .before .before .before .before in
     let w = z .none-named .ensures in
-    (s .pre .0, s .pre .1, search needs, search needs, s .pre .2, rest-named _ _ w, no-names _ _ _ _ w)
+    (s .pre .0, s .pre .1, search needs, search needs, s .pre .2, rest-named _ _ w, no-names _ _ _ _ w, s .pre .5)
 
 slice-aggregate-write-answers : tie.Need-slice-aggregate-write-answers
 slice-aggregate-write-answers c = search needs
