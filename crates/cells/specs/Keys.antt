@@ -1,6 +1,6 @@
 -- Keys of rows by which rows of different groups are told apart early (document 01, "Query"). Assumes nothing.
-use mathlib.Core.Path.{_≡_, refl, sym, ap, _∙_}
-use mathlib.Core.Bool.{true, false, not, false≢true}
+use mathlib.Core.Path.{_≡_, sym, ap, _∙_}
+use mathlib.Core.Bool.{true, not, false≢true}
 use mathlib.Core.Logic.{⊎-elim}
 use mathlib.Core.List.{List}
 use Prim.Native.Nat.{ℕ, _%_, _<_, _≤_}
@@ -10,7 +10,7 @@ use lib.Dec.{eqb}
 use lib.IntN.{ℤ, pos}
 use lib.ListN.{length, getD, List·getD-eq-default}
 use borrow.Author.Tests.{eqb-true, eqb-false}
-use Rattle.model.specs.Bytes.{bit, eqZ}
+use Rattle.model.specs.Bytes.{eqZ}
 use Rattle.model.specs.Better.{Row, cell, equalIn}
 use Rattle.model.specs.Query.{rowAt}
 use Rattle.laws.specs.Bools.{on-or-off, eqZ→≡, and-i}

@@ -34,6 +34,8 @@ pub record Met (beats : Rel ℕ) (n i m : ℕ) (gone : List ℕ) (lost : Bool) :
 pub record Settled (beats : Rel ℕ) (n : ℕ) (gone : List ℕ) : Type 0 where
   pub each : (j : ℕ) → j < n → eqb (getD gone j 0) 0 ≡ kept n beats j
 
--- A row that is gone is beaten by the row that `by` names.
+-- A row that is gone is beaten by the row that `by` names. If that is an earlier row, none before it that is not gone beats it.
 pub record Beaten (beats : Rel ℕ) (n : ℕ) (gone by : List ℕ) : Type 0 where
   pub each : (j : ℕ) → j < n → (getD gone j 0 ≡ 0 → ⊥) → (getD by j 0 < n) × (beats (getD by j 0) j ≡ true)
+  pub first : (j : ℕ) → j < n → (getD gone j 0 ≡ 0 → ⊥) → getD by j 0 < j
+      → (a : ℕ) → a < getD by j 0 → getD gone a 0 ≡ 0 → beats a j ≡ false

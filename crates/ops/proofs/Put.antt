@@ -1,5 +1,5 @@
 -- The entries of a record stand once they are put, and the others stay. Assumes nothing.
-use mathlib.Core.Path.{_≡_, _∙_, sym}
+use mathlib.Core.Path.{_≡_, _∙_}
 use mathlib.Core.Logic.{⊎-elim}
 use mathlib.Core.List.{List}
 use Prim.Native.Nat.{ℕ, _+_, _*_, _<_}
@@ -51,9 +51,9 @@ put-more table ops k {op} {left} {right} room few o l r old h b =
     ⊎-elim
     (λ m. let w = old h m in
     record {
-      op = other ops k op left right (4 * h) (λ e. omega (arith, m, e)) (λ e. omega (arith, m, e)) (λ e. omega (arith, m, e)) ∙ w .op;
-      left = other ops k op left right (4 * h + 1) (λ e. omega (arith, m, e)) (λ e. omega (arith, m, e)) (λ e. omega (arith, m, e)) ∙ w .left;
-      right = other ops k op left right (4 * h + 2) (λ e. omega (arith, m, e)) (λ e. omega (arith, m, e)) (λ e. omega (arith, m, e)) ∙ w .right;
+      op = stays m (4 * h) (omega arith) ∙ w .op;
+      left = stays m (4 * h + 1) (omega arith) ∙ w .left;
+      right = stays m (4 * h + 2) (omega arith) ∙ w .right;
     })
     (λ q. rw q
     (record {
@@ -62,3 +62,7 @@ put-more table ops k {op} {left} {right} room few o l r old h b =
       right = right-is ops k op left right room few ∙ r;
     }))
     (lt-suc-cases h k (omega (arith, b)))
+  where
+    stays : h < k → (i : ℕ) → i < 4 * h + 3 → getD (putAt ops k op left right) i 0 ≡ getD ops i 0
+    stays m i c =
+        other ops k op left right i (λ e. omega (arith, m, e, c)) (λ e. omega (arith, m, e, c)) (λ e. omega (arith, m, e, c))

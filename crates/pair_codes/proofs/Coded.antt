@@ -19,7 +19,6 @@ use Rattle.model.specs.Record.{recordCount, recordAt, isTerm}
 use Rattle.model.specs.Term.{termAt}
 use Rattle.model.specs.Bytes.{eqZ}
 use Rattle.model.specs.Better.{Row, cell}
-use Rattle.model.specs.Query.{rowAt}
 use Rattle.laws.specs.Bools.{on-or-off}
 use Rattle.laws.specs.Sound.{soundBase, sound}
 use Rattle.laws.specs.Runs.{valuesBetween}
@@ -194,6 +193,9 @@ module _ {table ops ends : List ℕ} {reach : List (List Bool)} {marks : List Bo
           same-code b (valuesBetween table k (getD ends k 0)) (cell x column) (cell y column) e ∙ base-code-is x y
 
       module _ (x y : Row) (apart : eqZ (cell x column) (cell y column) ≡ false) where
+        other : apartCode b (valuesBetween table k (getD ends k 0)) (cell x column) (cell y column) ≡ code (termAt table k) x y
+        other = other-code b (valuesBetween table k (getD ends k 0)) (cell x column) (cell y column) apart ∙ base-code-is x y
+
         -- others go by rank,
         pub ranked-is : isExplicit b ≡ false → {i j : ℕ} → RowOf columns rows n i x → RowOf columns rows n j y
             → testsCode false
@@ -204,16 +206,15 @@ module _ {table ops ends : List ℕ} {reach : List (List Bool)} {marks : List Bo
         ranked-is h r s =
             let v = cell x column in
             let w = cell y column in
-            rw (rank-is table k (getD ends k 0) b h v _ (rank-of r), rank-is table k (getD ends k 0) b h w _ (rank-of s))
-            (rw (by-rank (valuesBetween table k (getD ends k 0)) b is-sound h w v, by-rank (valuesBetween table k (getD ends k 0)) b is-sound h v w) at
-            (other-code b (valuesBetween table k (getD ends k 0)) v w apart))
-            ∙ base-code-is x y
+            let e = getD ends k 0 in
+            let values = valuesBetween table k e in
+            rw (rank-is table k e b h v _ (rank-of r), rank-is table k e b h w _ (rank-of s))
+            (rw (by-rank values b is-sound h w v, by-rank values b is-sound h v w) at other)
 
         -- and EXPLICIT's by its edges.
         pub explicit-code-is : b ≡ Explicit
             → apartCode Explicit (valuesBetween table k (getD ends k 0)) (cell x column) (cell y column) ≡ code (termAt table k) x y
-        explicit-code-is q =
-            rw q at (other-code b (valuesBetween table k (getD ends k 0)) (cell x column) (cell y column) apart ∙ base-code-is x y)
+        explicit-code-is q = rw q at other
 
     -- The parts of a compound are among 128 records,
     parts-below : (c : CompoundTerm) → recordAt table k ≡ Compound c → (leftOf (Compound c) < 128) × (rightOf (Compound c) < 128)
@@ -225,7 +226,8 @@ module _ {table ops ends : List ℕ} {reach : List (List Bool)} {marks : List Bo
     -- and its code is made from theirs.
     compound-code-is : (c : CompoundTerm) → recordAt table k ≡ Compound c → (x y : Row) (codes : List ℕ)
         → CodesBelow table marks x y k codes
-        → opCode (opOf (Compound c)) (getD codes (leftOf (Compound c)) 0) (getD codes (rightOf (Compound c)) 0) ≡ code (termAt table k) x y
+        → opCode (opOf (Compound c)) (getD codes (leftOf (Compound c)) 0) (getD codes (rightOf (Compound c)) 0)
+        ≡ code (termAt table k) x y
     unfolding opCode
     compound-code-is (Joined op p q) is x y codes r =
         let a = accepted-joined table columns ok k below op p q is in

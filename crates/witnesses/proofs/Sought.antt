@@ -1,17 +1,19 @@
 -- The search for the lowest kept row that is better goes through the list of kept rows. Assumes nothing.
 use mathlib.Core.Path.{_≡_, refl, sym, _∙_}
-use mathlib.Core.Bool.{Bool, true, false, _&&_}
+use mathlib.Core.Bool.{Bool, true, false, _&&_, and-false}
 use mathlib.Core.Logic.{⊎-elim}
 use mathlib.Core.List.{List}
 use Prim.Native.Nat.{ℕ, zero, suc, _+_, _<_}
 use native.Mathlib.Omega.{arith}
 use lib.ListN.{getD}
+use borrow.Author.Tests.{eq-eqb, eqb-true}
 use Rattle.model.specs.Search.{countBelow}
 use Rattle.model.specs.Query.{kept, keptCount, answer}
 use Rattle.laws.specs.Bools.{and-i, on-or-off}
 use Rattle.laws.specs.Search.{find-is, find-none}
 use Rattle.laws.specs.Order.{Rel}
 use Rattle.elimination.specs.Cases.{below-or-not}
+use Rattle.elimination.specs.Elimination.{Settled, Beaten}
 use Rattle.witnesses.specs.Kept.{Listed, lowestKept}
 use Rattle.witnesses.specs.Listing.{count-less}
 
@@ -101,3 +103,18 @@ module _ (beats : Rel ℕ) (n i : ℕ) where
   pub answer-lowest : (r : ℕ) → kept n beats i ≡ false → r ≡ lowestKept n beats i → r ≡ answer n beats i
   unfolding answer lowestKept
   answer-lowest r d e = rw d e
+
+  -- A kept row before row i that is named for it is the lowest that is better.
+  pub by-lowest : (gone by : List ℕ) → Settled beats n gone → Beaten beats n gone by → i < n → (getD gone i 0 ≡ 0 → ⊥)
+      → getD by i 0 < i → getD gone (getD by i 0) 0 ≡ 0 → getD by i 0 ≡ lowestKept n beats i
+  unfolding lowestKept
+  by-lowest gone by s r l e m z =
+      let w = r .each i l e in
+      let b = getD by i 0 in
+      find-is n (λ j. kept n beats j && beats j i) b (w .0)
+      (and-i (sym (s .each b (w .0)) ∙ eq-eqb (getD gone b 0) 0 z) (w .1))
+      (λ a q. ⊎-elim
+      (λ k. rw (r .first i l e m a q (eqb-true (getD gone a 0) 0 (s .each a (omega (arith, q, w .0)) ∙ k)))
+      (and-false (kept n beats a)))
+      (λ k. rw k)
+      (on-or-off (kept n beats a)))

@@ -91,7 +91,7 @@ pub fn write_answers(
     }
 }
 
-// Row i's entry.
+// Row i's entry. A kept row that dropped it in its own round is the lowest: a lower one would have dropped it before.
 fn entry(
     table: &[u8],
     ops: &[u8; 512],
@@ -124,6 +124,11 @@ fn entry(
     if gone[i] == 0 {
         return i as u16;
     }
+    let b = by[i];
+    let at = b as usize;
+    if (at < i) & (gone[at] == 0) {
+        return b;
+    }
     first_better(
         table,
         ops,
@@ -141,7 +146,7 @@ fn entry(
         kept,
         m,
         i,
-        by[i],
+        b,
         codes,
     )
 }

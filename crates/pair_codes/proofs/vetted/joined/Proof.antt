@@ -1,5 +1,4 @@
 -- `pair_codes::vetted::joined` meets its contract. Assumes nothing.
-use mathlib.Core.Path.{_∙_}
 use borrow.Author.Tests.{eq-eqb, ne-eqb}
 use Rattle.pair_codes.specs.Pairs.{opCode}
 use borrow.Author.Needs.{needs}

@@ -1,6 +1,6 @@
 -- `pair_codes::vetted::pair_code` meets its contract: the marked term records below `k` hold their codes, and what the
 -- records below `k` tell is known. Assumes nothing.
-use mathlib.Core.Path.{_≡_, sym, _∙_}
+use mathlib.Core.Path.{_≡_, _∙_}
 use mathlib.Core.Bool.{true}
 use mathlib.Core.Logic.{⊎-elim}
 use Prim.Native.Nat.{_+_, _-_, _≤_, _<_}

@@ -1,7 +1,5 @@
 -- `cells::vetted::keys::row_key` meets its contract. Assumes nothing.
-use mathlib.Core.Path.{sym, _∙_, ap}
-use lib.IntN.{pos}
-use lib.ListN.{getD}
+use mathlib.Core.Path.{_∙_, ap}
 use mir.Syntax.{w32}
 use mir.Facts.{toZ-ofZ}
 use denote.Ref.{now}

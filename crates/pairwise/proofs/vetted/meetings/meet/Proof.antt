@@ -65,7 +65,7 @@ returns-3 c =
     let e = group-first (p .0 .taken) _ _ _ _ (r .0) in
     let f = group-second (p .0 .taken) _ _ _ _ (r .0) in (
       meet-code _ _ _ _ _ (p .4) (c .group-code .result) (p .1) (p .2) (omega arith) (o .if1 .left) e f,
-      beaten-code _ _ _ _ _ _ (c .group-code .result) (p .1) (omega arith) (omega arith) e (p .5),
+      beaten-code _ _ _ _ _ _ (c .group-code .result) (p .1) (p .2) (omega arith) (omega arith) (p .4 .rest) (o .if1 .left) e (p .5),
       λ on. f ∙ on,
       r .1,
     )

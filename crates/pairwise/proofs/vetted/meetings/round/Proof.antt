@@ -1,6 +1,6 @@
 -- `pairwise::vetted::meetings::round` meets its contract. Assumes nothing.
 use mathlib.Core.Path.{_≡_, refl, _∙_}
-use Prim.Native.Nat.{_-_}
+use Prim.Native.Nat.{_-_, _<_}
 use native.Mathlib.Omega.{arith}
 use lib.ListN.{length, length-set}
 use borrow.Author.Needs.{needs}
@@ -16,7 +16,7 @@ abbrev Inv-loop : tie.InvT-loop
 Inv-loop table ops ends reach marks exits term group columns rows n stride ranks keys i gone₀ by₀ codes₀ j₀ gone by codes j =
     (length gone ≡ length gone₀) × (length by ≡ length by₀) × (length codes ≡ 128)
     × Turn (beatsIn (termAt table term) columns rows group) n i j gone
-    × Beaten (beatsIn (termAt table term) columns rows group) n gone by
+    × Beaten (beatsIn (termAt table term) columns rows group) n gone by × (i < j)
 
 abbrev μ-loop : tie.MeasureT-loop
 μ-loop table ops ends reach marks exits term group columns rows n stride ranks keys i gone₀ by₀ codes₀ j₀ gone by codes j =
@@ -28,7 +28,7 @@ add-j c = search needs
 loop-holds : tie.Need-loop-holds Inv-loop μ-loop
 loop-holds c =
     let p = c .before .before .before .pre in
-    (refl, refl, p .2 .ofCodes, turn-start _ _ _ _ _ (omega arith) (p .3), p .4)
+    (refl, refl, p .2 .ofCodes, turn-start _ _ _ _ _ (omega arith) (p .3), p .4, omega arith)
 
 meet-requires : tie.Need-meet-requires Inv-loop μ-loop
 meet-requires c κs =
@@ -67,9 +67,11 @@ returns c =
     let m = c .before .before .before .before .before in
     let p = m .before .before .before .before .before .before .before .before .before .pre in
     let r = m .meet .ensures in
+    let v = m .before .before .before .before .before .loop .inv in
     let on = c .if1 .taken in (
       turn-lost _ _ _ _ (omega arith) (r .0 .yes on) (r .0 .rest),
-      beaten-store _ _ _ _ _ _ _ (omega arith) (omega arith) (omega arith) (λ _. r .2 on) (r .1),
+      beaten-store _ _ _ _ _ _ _ (omega arith) (omega arith) (omega arith) (λ _. r .2 on)
+          (λ z. absurd (omega (arith, z))) (λ _ l. absurd (omega (arith, l, v .5))) (r .1),
       r .3,
     )
 
@@ -82,7 +84,7 @@ loop-less c = search needs
 loop-again : tie.Need-loop-again Inv-loop μ-loop
 loop-again c =
     let r = c .before .before .before .before .before .meet .ensures in
-    (omega arith, omega arith, r .3, met-turn _ _ _ _ _ (r .0) (c .if1 .left), r .1)
+    (omega arith, omega arith, r .3, met-turn _ _ _ _ _ (r .0) (c .if1 .left), r .1, omega arith)
 
 same-length-3 : tie.Need-same-length-3 Inv-loop μ-loop
 same-length-3 c = search needs
