@@ -20,7 +20,7 @@ ghost use lib.ListN.{length, take, replicate};
 ghost use Rattle.model.specs.declared.{CheckReply.CheckReply as Checked};
 ghost use Rattle.model.specs.Check.{checkReply};
 ghost use Rattle.model.specs.Pick.{failsFile, pickText};
-ghost use Rattle.lines.specs.Printed.{Printed};
+ghost use Rattle.fields.specs.Printed.{Printed};
 
 // Puts the text at the start of `out`.
 pub fn put_text(prefs: &[u8], rows: &[u8], out: &mut [u8; MOST_TEXT]) -> usize

@@ -1,10 +1,10 @@
--- `lines::vetted::fields::put_number` meets its contract: each branch is a number of one digit more. Assumes nothing.
+-- `fields::vetted::put_number` meets its contract: each branch is a number of one digit more. Assumes nothing.
 use borrow.Author.Needs.{needs}
 use native.Mathlib.Omega.{arith}
-use Rattle.lines.proofs.Joins.{wider}
-use Rattle.lines.proofs.Texts.{one, two, three, four}
-use Rattle.lines.proofs.vetted.fields.put_number.Statement.{statement}
-use Rattle.lines.proofs.vetted.fields.put_number.Tie as tie
+use Rattle.fields.proofs.Joins.{wider}
+use Rattle.fields.proofs.Texts.{one, two, three, four}
+use Rattle.fields.proofs.vetted.put_number.Statement.{statement}
+use Rattle.fields.proofs.vetted.put_number.Tie as tie
 
 cast-d0 : tie.Need-cast-d0
 cast-d0 c = search needs

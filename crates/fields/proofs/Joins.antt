@@ -5,7 +5,7 @@ use Prim.Native.Nat.{ℕ, _≤_, _+_}
 use mathlib.Core.Path.{_≡_, ap, _∙_, sym}
 use mathlib.Core.List.{List, _++_, append-assoc}
 use lib.ListN.{take, length}
-use Rattle.lines.specs.Printed.{Printed, Wrote}
+use Rattle.fields.specs.Printed.{Printed, Wrote}
 
 pub wider : {o : List ℕ} {at : ℕ} {t u : List ℕ} {k m : ℕ} {p : List ℕ} {r : ℕ}
     → Wrote o at t k p r → u ≡ t → k ≤ m → Wrote o at u m p r

@@ -1,4 +1,4 @@
--- `lines::vetted::put_rows` meets its contract. The invariant: the lines of the first i rows stand from `at` on. Assumes nothing.
+-- `row_lines::vetted::put_rows` meets its contract. The invariant: the lines of the first i rows stand from `at` on. Assumes nothing.
 use borrow.Author.Needs.{needs}
 use native.Mathlib.Omega.{arith}
 use Prim.Native.Nat.{ℕ, _≤_, _-_, _*_}
@@ -6,11 +6,11 @@ use mathlib.Core.Path.{_≡_, sym}
 use mathlib.Core.List.{append-nil}
 use lib.ListN.{length, getD}
 use Rattle.model.specs.Pick.{rowsText}
-use Rattle.lines.specs.Printed.{Wrote}
-use Rattle.lines.proofs.Joins.{wider, then}
-use Rattle.lines.proofs.Texts.{more}
-use Rattle.lines.proofs.vetted.put_rows.Statement.{statement}
-use Rattle.lines.proofs.vetted.put_rows.Tie as tie
+use Rattle.fields.specs.Printed.{Wrote}
+use Rattle.fields.proofs.Joins.{wider, then}
+use Rattle.row_lines.proofs.Texts.{more}
+use Rattle.row_lines.proofs.vetted.put_rows.Statement.{statement}
+use Rattle.row_lines.proofs.vetted.put_rows.Tie as tie
 
 abbrev Inv-loop : tie.InvT-loop
 Inv-loop n answers out₀ at to₀ i₀ out to i =

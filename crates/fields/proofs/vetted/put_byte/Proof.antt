@@ -1,9 +1,9 @@
--- `lines::vetted::fields::put_byte` meets its contract. Assumes nothing.
+-- `fields::vetted::put_byte` meets its contract. Assumes nothing.
 use borrow.Author.Needs.{needs}
 use native.Mathlib.Numerals.{add-one}
 use lib.Seq.{take-suc-set}
-use Rattle.lines.proofs.vetted.fields.put_byte.Statement.{statement}
-use Rattle.lines.proofs.vetted.fields.put_byte.Tie as tie
+use Rattle.fields.proofs.vetted.put_byte.Statement.{statement}
+use Rattle.fields.proofs.vetted.put_byte.Tie as tie
 
 slice-write-out : tie.Need-slice-write-out
 slice-write-out c = search needs

@@ -1,4 +1,4 @@
--- `lines::vetted::fields::put` meets its contract. The invariant: the first i bytes of src stand from `at` on. Assumes nothing.
+-- `fields::vetted::put` meets its contract. The invariant: the first i bytes of src stand from `at` on. Assumes nothing.
 use borrow.Author.Needs.{needs}
 use native.Mathlib.Omega.{arith}
 use native.Mathlib.Numerals.{add-one}
@@ -8,8 +8,8 @@ use mathlib.Core.List.{List, [], _∷_, _++_, append-assoc, append-nil}
 use lib.ListN.{length, take, getD}
 use lib.Seq.{take-suc, take-all}
 use denote.Ref.{now}
-use Rattle.lines.proofs.vetted.fields.put.Statement.{statement}
-use Rattle.lines.proofs.vetted.fields.put.Tie as tie
+use Rattle.fields.proofs.vetted.put.Statement.{statement}
+use Rattle.fields.proofs.vetted.put.Tie as tie
 
 abbrev Inv-loop : tie.InvT-loop
 Inv-loop src out₀ at to₀ i₀ i-end out to i =

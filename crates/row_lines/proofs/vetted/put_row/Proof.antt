@@ -1,10 +1,10 @@
--- `lines::vetted::put_row` meets its contract: what it puts, one after another, is the line. Assumes nothing.
+-- `row_lines::vetted::put_row` meets its contract: what it puts, one after another, is the line. Assumes nothing.
 use borrow.Author.Needs.{needs}
 use native.Mathlib.Omega.{arith}
-use Rattle.lines.proofs.Joins.{wider, then}
-use Rattle.lines.proofs.Texts.{kept, dropped}
-use Rattle.lines.proofs.vetted.put_row.Statement.{statement}
-use Rattle.lines.proofs.vetted.put_row.Tie as tie
+use Rattle.fields.proofs.Joins.{wider, then}
+use Rattle.row_lines.proofs.Texts.{kept, dropped}
+use Rattle.row_lines.proofs.vetted.put_row.Statement.{statement}
+use Rattle.row_lines.proofs.vetted.put_row.Tie as tie
 
 put-number-requires : tie.Need-put-number-requires
 put-number-requires c κs = search needs

@@ -1,10 +1,10 @@
--- `lines::vetted::put_place` meets its contract: a place is a number or `-`. Assumes nothing.
+-- `fields::vetted::put_place` meets its contract: a place is a number or `-`. Assumes nothing.
 use borrow.Author.Needs.{needs}
 use native.Mathlib.Omega.{arith}
-use Rattle.lines.proofs.Joins.{wider}
-use Rattle.lines.proofs.Texts.{nowhere, placed}
-use Rattle.lines.proofs.vetted.put_place.Statement.{statement}
-use Rattle.lines.proofs.vetted.put_place.Tie as tie
+use Rattle.fields.proofs.Joins.{wider}
+use Rattle.fields.proofs.Texts.{nowhere, placed}
+use Rattle.fields.proofs.vetted.put_place.Statement.{statement}
+use Rattle.fields.proofs.vetted.put_place.Tie as tie
 
 enum-told : tie.Need-enum-told
 enum-told c = search needs

@@ -1,9 +1,22 @@
-// What a line is made of, put into a buffer from a place on: a byte, bytes, a number. Each returns the place after it.
+// What a line is made of, put into a buffer from a place on: a place, a number, bytes, a byte. Each returns the place after
+// it, and asks that the buffer has room.
+use model::Place;
 ghost use Prim.Native.Nat.{_+_, _≤_, _<_};
 ghost use mathlib.Core.List.{[], _∷_};
 ghost use lib.ListN.{length};
-ghost use Rattle.model.specs.Pick.{decimal};
-ghost use Rattle.lines.specs.Printed.{Wrote};
+ghost use Rattle.model.specs.Pick.{decimal, placeText};
+ghost use Rattle.fields.specs.Printed.{Wrote};
+
+// The place or `-`.
+pub fn put_place(p: Place, out: &mut [u8], at: usize) -> usize
+    requires { ⌜ at + 4 ≤ length (now out) ⌝ }
+    ensures { λ r. ⌜ Wrote (now (out .entry)) at (placeText p) 4 (now (out .exit)) r ⌝ }
+{
+    match p {
+        Place::Nowhere => put_byte(45, out, at),
+        Place::At(k) => put_number(k as u32, out, at),
+    }
+}
 
 // A number in decimal: the last four digits, where it has more.
 pub fn put_number(n: u32, out: &mut [u8], at: usize) -> usize
