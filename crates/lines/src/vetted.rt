@@ -1,5 +1,4 @@
-// Inner functions that `pick_text` calls. They are no public calls: each asks that the buffer has room. The longest text
-// has 15,378 bytes: a line of at most 18, and 1,024 lines of at most 15.
+// Inner functions that `pick_text` calls. They are no public calls: each asks that the buffer has room.
 use fields::vetted::put;
 use fields::vetted::put_byte;
 use fields::vetted::put_number;
