@@ -1,6 +1,6 @@
 // What `pick` reads and writes (document 01, "The pick program"): its two files, and the text that `pick_text` makes of them.
 use libc::STDOUT_FILENO;
-use pick_text::MOST_TEXT;
+use lines::MOST_TEXT;
 ghost use Prim.Native.Nat.{_≤_};
 ghost use lib.ListN.{length};
 ghost use Rattle.io.specs.Counts.{Counts};

@@ -6,7 +6,7 @@ use native.Mathlib.Omega.{arith}
 use native.Mathlib.Numerals.{add-one}
 use lib.ListN.{length, take, set, replicate, replicate-append-replicate, length-append}
 use lib.Seq.{take-suc-set, length-take-le}
-use Rattle.lines.specs.Printed.{Printed}
+use Rattle.fields.specs.Printed.{Printed}
 
 -- No zero yet.
 pub zero-none : (before : List ℕ) (from : ℕ) → take from before ≡ take from before ++ replicate (from - from) 0

@@ -1,4 +1,3 @@
-pub mod Numbers
-pub mod Answered
+pub mod Refused
 pub mod Files
 pub mod Cleared

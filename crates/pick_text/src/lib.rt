@@ -1,7 +1,7 @@
 // All that `pick` prints, as a function of the bytes of its two files (document 01, "The pick program").
-mod rows;
 mod text;
 
+use lines::MOST_TEXT;
 use text::clear;
 use text::put_text;
 ghost use mathlib.Core.Path.{_≡_};
@@ -9,9 +9,6 @@ ghost use mathlib.Core.List.{List, _++_};
 ghost use Prim.Native.Nat.{ℕ, _-_, _≤_};
 ghost use lib.ListN.{length, take, replicate};
 ghost use Rattle.model.specs.Pick.{pickText};
-
-// The most bytes that a text has, as `lines` counts them.
-pub const MOST_TEXT: usize = 15378;
 
 // The text for `prefs.bin`, a table, and `rows.bin`, whatever bytes they have; a missing file is one of no bytes. Returns
 // how many bytes the text has. It stands at the start of `out`, and zeros after it.

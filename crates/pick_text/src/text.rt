@@ -1,26 +1,21 @@
 // The text put at the start of a buffer: the table's refusals, then that of `rows.bin`, then the answers.
-use crate::MOST_TEXT;
-use crate::rows::fails_file;
-use crate::rows::put_numbers;
-use lines::vetted::put_answer;
+use answer_text::vetted::put_answered;
+use lines::MOST_TEXT;
 use lines::vetted::put_refused;
 use model::CheckReply;
 use model::MOST_COLUMNS;
-use model::MOST_ROWS;
-use model::QueryReply;
 use model::Refusal;
 use model::Summary;
-use query::query_by_parts;
+use row_file::vetted::fails_file;
 use table::check;
 ghost use mathlib.Core.Path.{_≡_};
-ghost use mathlib.Core.Bool.{false};
 ghost use mathlib.Core.List.{_++_};
 ghost use Prim.Native.Nat.{_-_, _≤_};
 ghost use lib.ListN.{length, take, replicate};
 ghost use Rattle.model.specs.declared.{CheckReply.CheckReply as Checked};
 ghost use Rattle.model.specs.Check.{checkReply};
-ghost use Rattle.model.specs.Pick.{failsFile, pickText};
-ghost use Rattle.lines.specs.Printed.{Printed};
+ghost use Rattle.model.specs.Pick.{pickText};
+ghost use Rattle.fields.specs.Printed.{Printed};
 
 // Puts the text at the start of `out`.
 pub fn put_text(prefs: &[u8], rows: &[u8], out: &mut [u8; MOST_TEXT]) -> usize
@@ -42,23 +37,6 @@ fn put_accepted(prefs: &[u8], rows: &[u8], s: Summary, out: &mut [u8; MOST_TEXT]
         return put_refused(Refusal::Rows, out);
     }
     put_answered(prefs, rows, s, out)
-}
-
-// The text for an accepted table and whole rows: the top over the rows, ungrouped, by the engine by parts.
-fn put_answered(prefs: &[u8], rows: &[u8], s: Summary, out: &mut [u8; MOST_TEXT]) -> usize
-    requires { ⌜ (checkReply (now prefs) 8 ≡ Checked.Accepted s) × (failsFile (now rows) ≡ false) ⌝ }
-    ensures { λ r. ⌜ Printed (pickText (now (prefs .entry)) (now (rows .entry))) (now (out .exit)) r ⌝ }
-{
-    let mut run = [0i32; 8192];
-    let count = rows.len() / 4;
-    put_numbers(rows, count, &mut run);
-    let mut answers = [0u16; MOST_ROWS];
-    let top = s.top as usize;
-    let reply = query_by_parts(prefs, MOST_COLUMNS, &run[..count], top, 0, &mut answers);
-    match reply {
-        QueryReply::Refused(why) => put_refused(why, out),
-        QueryReply::Kept(kept) => put_answer(s, kept, rows.len() / 32, &answers, out),
-    }
 }
 
 // Writes zeros from `from` on.

@@ -2,7 +2,7 @@
 use borrow.Author.Needs.{needs}
 use native.Mathlib.Omega.{arith}
 use mathlib.Core.Path.{refl}
-use Rattle.lines.proofs.Joins.{then, printed}
+use Rattle.fields.proofs.Joins.{then, printed}
 use Rattle.lines.proofs.vetted.put_answer.Statement.{statement}
 use Rattle.lines.proofs.vetted.put_answer.Tie as tie
 

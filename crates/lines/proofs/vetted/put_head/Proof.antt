@@ -1,7 +1,7 @@
 -- `lines::vetted::put_head` meets its contract: what it puts, one after another, is the line. Assumes nothing.
 use borrow.Author.Needs.{needs}
 use native.Mathlib.Omega.{arith}
-use Rattle.lines.proofs.Joins.{wider, then}
+use Rattle.fields.proofs.Joins.{wider, then}
 use Rattle.lines.proofs.Texts.{head}
 use Rattle.lines.proofs.vetted.put_head.Statement.{statement}
 use Rattle.lines.proofs.vetted.put_head.Tie as tie

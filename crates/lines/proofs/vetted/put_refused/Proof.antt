@@ -1,7 +1,7 @@
 -- `lines::vetted::put_refused` meets its contract: what it puts, one after another, is the line. Assumes nothing.
 use borrow.Author.Needs.{needs}
 use native.Mathlib.Omega.{arith}
-use Rattle.lines.proofs.Joins.{then, printed}
+use Rattle.fields.proofs.Joins.{then, printed}
 use Rattle.lines.proofs.Texts.{refused}
 use Rattle.lines.proofs.vetted.put_refused.Statement.{statement}
 use Rattle.lines.proofs.vetted.put_refused.Tie as tie

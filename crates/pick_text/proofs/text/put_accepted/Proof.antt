@@ -2,7 +2,7 @@
 use mathlib.Core.Path.{sym, _∙_}
 use denote.Ref.{now}
 use borrow.Author.Needs.{needs}
-use Rattle.pick_text.proofs.Answered.{file-refused}
+use Rattle.pick_text.proofs.Refused.{file-refused}
 use Rattle.pick_text.proofs.text.put_accepted.Statement.{statement}
 use Rattle.pick_text.proofs.text.put_accepted.Tie as tie
 

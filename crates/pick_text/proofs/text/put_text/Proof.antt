@@ -2,7 +2,7 @@
 use mathlib.Core.Path.{sym, _∙_}
 use denote.Ref.{now}
 use borrow.Author.Needs.{needs}
-use Rattle.pick_text.proofs.Answered.{table-refused}
+use Rattle.pick_text.proofs.Refused.{table-refused}
 use Rattle.pick_text.proofs.text.put_text.Statement.{statement}
 use Rattle.pick_text.proofs.text.put_text.Tie as tie
 
