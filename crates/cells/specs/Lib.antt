@@ -3,3 +3,4 @@ pub mod Group
 pub mod Keys
 pub mod Values
 pub mod Places
+pub mod Stretch

@@ -1,23 +1,20 @@
 -- Entries by block: the entry of row b * 64 + j at stretch h stands at b * size + h * 64 + j, in block b, in its stretch h,
 -- at lane j. `size` is what each block takes. Assumes nothing.
-use mathlib.Core.Path.{_≡_, sym, ap, ap₂, _∙_, subst}
+use mathlib.Core.Path.{_≡_, sym, ap, _∙_}
 use mathlib.Core.Logic.{⊎-elim}
 use mathlib.Core.List.{List}
 use Prim.Native.Nat.{ℕ, _+_, _-_, _*_, _/_, _%_, _<_, _≤_}
 use native.Mathlib.Nat.{mul-le-mul-right, suc-mul, add-sub-cancel-left}
 use native.Mathlib.Omega.{arith}
 use lib.Dec.{ltb}
-use lib.ListN.{length, getD, set, take, drop, length-drop}
-use lib.Seq.{getD-set-same, getD-set-other, getD-take, getD-drop, length-take-le}
+use lib.ListN.{length, getD, take, drop, length-drop}
+use lib.Seq.{getD-take, getD-drop, length-take-le}
 use lib.IntN.{ℤ, pos}
 use borrow.Author.Tests.{ltb-true, ltb-false}
 use Rattle.model.specs.Better.{cell}
 use Rattle.model.specs.Query.{rowAt}
 use Rattle.laws.specs.Bools.{on-or-off}
-use Rattle.laws.specs.Search.{lt-suc-cases}
 use Rattle.cells.specs.Values.{Room}
-
--- ---- places
 
 -- A run has the whole of each of its rows.
 pub row-in : (n columns size : ℕ) → size ≡ n * columns → (i : ℕ) → i < n → i * columns + columns ≤ size
@@ -70,58 +67,3 @@ place-apart size b h j b′ h′ j′ k k′ w w′ e =
     same q =
         let f : b * size ≡ b′ * size = ap (λ (x : ℕ). x * size) q in
         (omega (arith, e, f, k, k′), omega (arith, e, f, k, k′, q))
-
--- ---- a loop that fills the stretches one after the other, each by rows
-
--- `Q h r x` says of x that it is right for row r at stretch h. The stretches below c are right for n rows, and stretch c
--- for the rows below i.
-pub record Placed {A : Type 0} (z : A) (Q : ℕ → ℕ → A → Type 0) (size n c i : ℕ) (list : List A) : Type 0 where
-  pub below : (b j h : ℕ) → j < 64 → b * 64 + j < n → h < c → Q h (b * 64 + j) (getD list (b * size + h * 64 + j) z)
-  pub here : (b j : ℕ) → j < 64 → b * 64 + j < i → Q c (b * 64 + j) (getD list (b * size + c * 64 + j) z)
-
-module _ {A : Type 0} (z : A) (Q : ℕ → ℕ → A → Type 0) (size n c : ℕ) where
-  -- No row yet.
-  pub placed-none : (list : List A)
-      → ((b j h : ℕ) → j < 64 → b * 64 + j < n → h < c → Q h (b * 64 + j) (getD list (b * size + h * 64 + j) z))
-      → Placed z Q size n c 0 list
-  placed-none list f = record { below = f; here = λ b j k l. absurd (omega (arith, l)) }
-
-  -- The entry of row i is stored.
-  pub placed-store : (i : ℕ) (list : List A) (v : A) → Room n size (length list) → i < n → c * 64 + 64 ≤ size → Q c i v
-      → Placed z Q size n c i list → Placed z Q size n c (i + 1) (set list (i / 64 * size + c * 64 + i % 64) v)
-  placed-store i list v room l w q p =
-      record {
-        below = λ b j h k m o. subst (Q h (b * 64 + j))
-            (sym (other b j h k (omega (arith, o, w)) (λ e f. omega (arith, e, o)))) (p .below b j h k m o);
-        here = λ b j k m. ⊎-elim
-            (λ o. subst (Q c (b * 64 + j)) (sym (other b j c k w (λ e f. omega (arith, f, o)))) (p .here b j k o))
-            (λ o. at b j k o)
-            (lt-suc-cases (b * 64 + j) i (omega (arith, m)));
-      }
-    where
-      other : (b j h : ℕ) → j < 64 → h * 64 + 64 ≤ size → (h ≡ c → b * 64 + j ≡ i → ⊥)
-          → getD (set list (i / 64 * size + c * 64 + i % 64) v) (b * size + h * 64 + j) z
-          ≡ getD list (b * size + h * 64 + j) z
-      other b j h k u apart =
-          getD-set-other list (i / 64 * size + c * 64 + i % 64) (b * size + h * 64 + j) v z
-          (λ e. let d = place-apart size b h j (i / 64) c (i % 64) k (omega arith) u w e in
-          apart (d .0) (omega (arith, d .1)))
-
-      at : (b j : ℕ) → j < 64 → b * 64 + j ≡ i
-          → Q c (b * 64 + j) (getD (set list (i / 64 * size + c * 64 + i % 64) v) (b * size + c * 64 + j) z)
-      at b j k e =
-          let s = getD-set-same list (i / 64 * size + c * 64 + i % 64) v z (place-in n size room i c l w) in
-          let f : i / 64 ≡ b = omega (arith, e, k) in
-          let g : i % 64 ≡ j = omega (arith, e, k) in
-          let y : i / 64 * size + c * 64 + i % 64 ≡ b * size + c * 64 + j =
-          ap₂ (λ (x m : ℕ). x * size + c * 64 + m) f g in
-          subst (λ (r : ℕ). Q c r (getD (set list (i / 64 * size + c * 64 + i % 64) v) (b * size + c * 64 + j) z)) (sym e)
-          (subst (Q c i) (sym (ap (λ (x : ℕ). getD (set list (i / 64 * size + c * 64 + i % 64) v) x z) (sym y) ∙ s)) q)
-
-  -- All rows.
-  pub placed-all : (list : List A) → Placed z Q size n c n list
-      → (b j h : ℕ) → j < 64 → b * 64 + j < n → h < c + 1 → Q h (b * 64 + j) (getD list (b * size + h * 64 + j) z)
-  placed-all list p b j h k l m =
-      ⊎-elim (λ o. p .below b j h k l o)
-      (λ o. subst (λ (x : ℕ). Q x (b * 64 + j) (getD list (b * size + x * 64 + j) z)) (sym o) (p .here b j k l))
-      (lt-suc-cases h c (omega (arith, m)))

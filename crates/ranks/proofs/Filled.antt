@@ -1,9 +1,9 @@
--- Ranks by block, as a loop over records and one over rows fill them in. Assumes nothing.
-use mathlib.Core.Path.{_≡_, sym, _∙_, ap, subst}
+-- Ranks by block, as a loop over records and one over blocks fill them in. Assumes nothing.
+use mathlib.Core.Path.{_≡_, refl, sym, _∙_, ap, subst}
 use mathlib.Core.Logic.{⊎-elim}
 use mathlib.Core.Bool.{Bool, true, false}
 use mathlib.Core.List.{List}
-use Prim.Native.Nat.{ℕ, _+_, _<_}
+use Prim.Native.Nat.{ℕ, _+_, _*_, _<_, _≤_}
 use native.Mathlib.Omega.{arith}
 use lib.IntN.{ℤ, pos}
 use lib.ListN.{getD}
@@ -15,15 +15,10 @@ use Rattle.model.specs.Query.{rowAt}
 use Rattle.laws.specs.Search.{lt-suc-cases}
 use Rattle.laws.specs.AcceptedTable.{accepted-table}
 use Rattle.laws.specs.AcceptedKinds.{accepted-base}
-use Rattle.cells.specs.Places.{Placed, placed-none, placed-all}
+use Rattle.cells.specs.Places.{place-apart}
+use Rattle.cells.specs.Stretch.{Stretch}
 use Rattle.ranks.specs.Rank.{RankAt}
 use Rattle.ranks.specs.Ranked.{Ranked, RecordRankable, ColumnRankable}
-
--- x is the rank of row r under record h, if that is a marked base record.
-abbrev pub RankIn : List ℕ → List ℕ → List Bool → ℕ → List ℤ → ℕ → ℕ → ℤ → Type 0
-RankIn table ends marks columns rows h r x =
-    (column : ℕ) (t : BaseTerm) → getD marks h false ≡ true → recordAt table h ≡ Base column t
-    → RankAt table h (getD ends h 0) t (cell (rowAt columns rows r) column) x
 
 -- What a record says of a rank, and nothing where it is no base record.
 abbrev RankBy : List ℕ → ℕ → ℕ → List ℤ → ℤ → Record → Type 0
@@ -39,30 +34,66 @@ NoBase (Base column t) = ⊥
 NoBase (Compound c) = Unit {0}
 NoBase Unknown = Unit {0}
 
--- A base record's rank is its term's on its column.
-pub rank-in : (table ends : List ℕ) (columns : ℕ) (rows : List ℤ) (k : ℕ) {column : ℕ} {t : BaseTerm}
-    → recordAt table k ≡ Base column t → (marks : List Bool) (r : ℕ) (x : ℤ)
-    → RankAt table k (getD ends k 0) t (cell (rowAt columns rows r) column) x → RankIn table ends marks columns rows k r x
-rank-in table ends columns rows k e marks r x h column t m e′ =
-    subst (RankBy table k (getD ends k 0) (rowAt columns rows r) x) (sym e ∙ e′) h
+-- ---- a loop that fills in the ranks of record k by blocks
+
+-- The ranks of the blocks below b are right, and those of the records below k are as they were. `Q r x` says of x that it is
+-- right for row r.
+pub record Ranking (Q : ℕ → ℤ → Type 0) (n stride k b : ℕ) (before after : List ℤ) : Type 0 where
+  pub kept : (a j h : ℕ) → j < 64 → h < k
+      → getD after (a * stride + h * 64 + j) (pos 0) ≡ getD before (a * stride + h * 64 + j) (pos 0)
+  pub here : (a j : ℕ) → j < 64 → a * 64 + j < n → a < b → Q (a * 64 + j) (getD after (a * stride + k * 64 + j) (pos 0))
+
+module _ (Q : ℕ → ℤ → Type 0) (n stride k : ℕ) (before : List ℤ) where
+  -- No block yet.
+  pub ranking-none : Ranking Q n stride k 0 before before
+  ranking-none = record { kept = λ a j h l m. refl; here = λ a j l m o. absurd (omega (arith, o)) }
+
+  -- One block more.
+  pub ranking-more : k * 64 + 64 ≤ stride → (b m : ℕ) → m ≤ 64 → ((j : ℕ) → j < 64 → b * 64 + j < n → j < m)
+      → {R : ℤ → ℤ → Type 0} {columns from : ℕ} {rows list after : List ℤ}
+      → ((j : ℕ) (x : ℤ) → R (getD rows (from + j * columns) (pos 0)) x → Q (b * 64 + j) x)
+      → Stretch R columns rows from m (b * stride + k * 64) list after → Ranking Q n stride k b before list
+      → Ranking Q n stride k (b + 1) before after
+  ranking-more w b m most all {list} {after} right s r =
+      record {
+        kept = λ a j h l o. apart a j h l (omega (arith, o, w)) (λ i u x y. omega (arith, o, x)) ∙ r .kept a j h l o;
+        here = λ a j l o q. ⊎-elim
+            (λ u. subst (Q (a * 64 + j)) (sym (apart a j k l w (λ i v x y. omega (arith, u, l, y)))) (r .here a j l o u))
+            (λ u. new a j l o u)
+            (lt-suc-cases a b (omega (arith, q)));
+      }
+    where
+      apart : (a j h : ℕ) → j < 64 → h * 64 + 64 ≤ stride → ((i : ℕ) → i < m → h ≡ k → a * 64 + j ≡ b * 64 + i → ⊥)
+          → getD after (a * stride + h * 64 + j) (pos 0) ≡ getD list (a * stride + h * 64 + j) (pos 0)
+      apart a j h l u never =
+          s .kept (a * stride + h * 64 + j)
+          (λ i v e. let d = place-apart stride a h j b k i l (omega (arith, v, most)) u w e in never i v (d .0) (d .1))
+
+      new : (a j : ℕ) → j < 64 → a * 64 + j < n → a ≡ b → Q (a * 64 + j) (getD after (a * stride + k * 64 + j) (pos 0))
+      new a j l o u = rw u (right j (getD after (b * stride + k * 64 + j) (pos 0)) (s .here j (all j l (rw u at o))))
+
+module _ {table ends : List ℕ} {marks : List Bool} {columns : ℕ} {rows : List ℤ} {n stride k : ℕ} where
+  -- All blocks.
+  pub ranked-all : {column : ℕ} {t : BaseTerm} (b : ℕ) {before after : List ℤ} → recordAt table k ≡ Base column t → n ≤ b * 64
+      → Ranking (λ r x. RankAt table k (getD ends k 0) t (cell (rowAt columns rows r) column) x) n stride k b before after
+      → Ranked table ends marks columns rows n stride k before → Ranked table ends marks columns rows n stride (k + 1) after
+  ranked-all {column} {t} b {before} {after} e f p r =
+      record {
+        each = λ a j h column′ t′ l m o d e′. ⊎-elim
+            (λ q. subst (RankAt table h (getD ends h 0) t′ (cell (rowAt columns rows (a * 64 + j)) column′)) (sym (p .kept a j h l q))
+            (r .each a j h column′ t′ l m q d e′))
+            (λ q. last a j h column′ t′ l m q e′)
+            (lt-suc-cases h k (omega (arith, o)));
+      }
+    where
+      last : (a j h column′ : ℕ) (t′ : BaseTerm) → j < 64 → a * 64 + j < n → h ≡ k → recordAt table h ≡ Base column′ t′
+          → RankAt table h (getD ends h 0) t′ (cell (rowAt columns rows (a * 64 + j)) column′)
+          (getD after (a * stride + h * 64 + j) (pos 0))
+      last a j h column′ t′ l m q e′ =
+          rw q (subst (RankBy table k (getD ends k 0) (rowAt columns rows (a * 64 + j)) (getD after (a * stride + k * 64 + j) (pos 0)))
+          (sym e ∙ rw q at e′) (p .here a j l m (omega (arith, f, m))))
 
 module _ {table ends : List ℕ} {marks : List Bool} {columns : ℕ} {rows : List ℤ} {n stride k : ℕ} {ranks : List ℤ} where
-  -- No row yet.
-  pub ranked-start : Ranked table ends marks columns rows n stride k ranks
-      → Placed (pos 0) (RankIn table ends marks columns rows) stride n k 0 ranks
-  ranked-start r =
-      placed-none (pos 0) (RankIn table ends marks columns rows) stride n k ranks
-      (λ b j h l m o column t d e. r .each b j h column t l m o d e)
-
-  -- All rows.
-  pub ranked-all : Placed (pos 0) (RankIn table ends marks columns rows) stride n k n ranks
-      → Ranked table ends marks columns rows n stride (k + 1) ranks
-  ranked-all p =
-      record {
-        each = λ b j h column t l m o d e.
-            placed-all (pos 0) (RankIn table ends marks columns rows) stride n k ranks p b j h l m o column t d e;
-      }
-
   -- A record that is not marked, or is no base record, has no ranks.
   pub ranked-other : ((column : ℕ) (t : BaseTerm) → getD marks k false ≡ true → recordAt table k ≡ Base column t → ⊥)
       → Ranked table ends marks columns rows n stride k ranks → Ranked table ends marks columns rows n stride (k + 1) ranks

@@ -2,3 +2,4 @@
 pub mod beneath;
 pub mod fill;
 pub mod rank;
+pub mod stretch;

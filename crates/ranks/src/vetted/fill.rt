@@ -1,5 +1,6 @@
 // The ranks of all rows under the marked base records, block by block: a block takes `stride` entries, 64 for each record.
-use crate::vetted::rank::rank;
+use crate::vetted::stretch::fill_stretch;
+use cells::vetted::values::block_rows;
 use model::BaseTerm;
 use model::Record;
 use values::vetted::lookup::decoded;
@@ -85,7 +86,7 @@ fn fill_record(
     }
 }
 
-// Fills in the ranks of base record k, row by row.
+// Fills in the ranks of base record k, block by block.
 fn fill_column(
     table: &[u8],
     numbers: &[i32; 256],
@@ -103,13 +104,16 @@ fn fill_column(
     ensures { λ _. ⌜ Adds (now (table .entry)) (now (ends .entry)) columns (now (rows .entry)) n stride k
         (now (ranks .entry)) (now (ranks .exit)) ⌝ }
 {
-    let at = k as usize;
+    let h = k as usize;
     let c = column as usize;
-    let e = ends[at];
+    let e = ends[h];
     let mut i = 0;
-    while i < n {
-        let place = i / 64 * stride + at * 64 + i % 64;
-        ranks[place] = rank(table, numbers, k, e, b, rows[i * columns + c]);
+    while i * 64 < n {
+        let first = i * 64;
+        let m = block_rows(n - first);
+        let from = first * columns + c;
+        let at = i * stride + h * 64;
+        fill_stretch(table, numbers, k, e, b, columns, rows, from, m, at, ranks);
         i += 1;
     }
 }

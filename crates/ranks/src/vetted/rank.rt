@@ -34,14 +34,14 @@ pub fn rank(table: &[u8], numbers: &[i32; 256], k: u8, e: u8, b: BaseTerm, x: i3
 }
 
 // AROUND: by distance to the wish.
-fn around_rank(wish: i32, x: i32) -> i32
+pub fn around_rank(wish: i32, x: i32) -> i32
     ensures { λ r. ⌜ r ≡ centred (distance wish x) ⌝ }
 {
     centred(distance(wish, x))
 }
 
 // BETWEEN: by distance to the nearer bound.
-fn between_rank(low: i32, up: i32, x: i32) -> i32
+pub fn between_rank(low: i32, up: i32, x: i32) -> i32
     ensures { λ r. ⌜ r ≡ centred (distanceBetween low up x) ⌝ }
 {
     centred(distance_between(low, up, x))
