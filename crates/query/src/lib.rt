@@ -1,7 +1,4 @@
 // The rows that a term keeps (document 01, "Query"), by two engines behind one contract.
-mod direct;
-mod parts;
-
 use asked::vetted::query::query_verdict;
 use model::QueryReply;
 use model::Verdict;
@@ -26,7 +23,7 @@ pub fn query_direct(
     let verdict = query_verdict(table, columns, rows, term, group, answers);
     match verdict {
         Verdict::Refused(why) => QueryReply::Refused(why),
-        Verdict::Passed => QueryReply::Kept(direct::selected(
+        Verdict::Passed => QueryReply::Kept(direct::vetted::selected(
             table,
             columns,
             rows,
@@ -52,7 +49,7 @@ pub fn query_by_parts(
     let verdict = query_verdict(table, columns, rows, term, group, answers);
     match verdict {
         Verdict::Refused(why) => QueryReply::Refused(why),
-        Verdict::Passed => QueryReply::Kept(parts::selected(
+        Verdict::Passed => QueryReply::Kept(parts::vetted::selected(
             table,
             columns,
             rows,

@@ -1,0 +1,301 @@
+// The direct engine: rows are compared pair by pair, by ranks that are found once per query; a row that is gone is not
+// compared again, and a dropped row's witness comes from the list of kept rows.
+use cells::vetted::keys::fill_keys;
+use exits::vetted::exits;
+use ops::vetted::ops;
+use pairwise::vetted::meetings::eliminate;
+use ranks::vetted::beneath::beneath;
+use ranks::vetted::fill::fill_ranks;
+use values::vetted::prepared::closures;
+use values::vetted::prepared::numbers;
+use values::vetted::prepared::run_ends;
+use witnesses::vetted::list_kept;
+use witnesses::vetted::write_answers;
+ghost use Prim.Native.Nat.{_≤_};
+ghost use lib.ListN.{length};
+ghost use Rattle.model.specs.Term.{termAt};
+ghost use Rattle.model.specs.Query.{beatsIn, rowCount};
+ghost use Rattle.laws.specs.Taken.{Taken};
+ghost use Rattle.cells.specs.Values.{Room};
+ghost use Rattle.pair_codes.specs.Pairs.{Comparable};
+ghost use Rattle.selection.specs.Selected.{AskedRows, StrideFor, Selected};
+
+// Writes the entries. Returns how many rows are kept.
+pub fn selected(
+    table: &[u8],
+    columns: usize,
+    rows: &[i32],
+    term: u8,
+    group: u8,
+    answers: &mut [u16],
+) -> u16
+    requires { ⌜ Taken (now table) columns (now rows) term group (now answers) ⌝ }
+    ensures { λ r. ⌜ Selected (beatsIn (termAt (now (table .entry)) term) columns (now (rows .entry)) group)
+        (rowCount columns (now (rows .entry))) (now (answers .entry)) (now (answers .exit)) r ⌝ }
+{
+    let n = rows.len() / columns;
+    ranked(table, columns, rows, n, term, group, answers)
+}
+
+// Room for the ranks: a block of 64 rows takes 64 for each record up to the term. Clearing more would cost more than a small
+// query does.
+fn ranked(
+    table: &[u8],
+    columns: usize,
+    rows: &[i32],
+    n: usize,
+    term: u8,
+    group: u8,
+    answers: &mut [u16],
+) -> u16
+    requires { ⌜ AskedRows (now table) columns term (now rows) n × (n ≤ length (now answers)) ⌝ }
+    ensures { λ r. ⌜ Selected (beatsIn (termAt (now (table .entry)) term) columns (now (rows .entry)) group) n
+        (now (answers .entry)) (now (answers .exit)) r ⌝ }
+{
+    let stride = (term as usize) * 64 + 64;
+    let size = (n + 63) / 64 * stride;
+    if size <= 1024 {
+        return in_1024_ranks(table, columns, rows, n, stride, term, group, answers);
+    }
+    if size <= 8192 {
+        return in_8192_ranks(table, columns, rows, n, stride, term, group, answers);
+    }
+    if size <= 32768 {
+        return in_32768_ranks(table, columns, rows, n, stride, term, group, answers);
+    }
+    in_131072_ranks(table, columns, rows, n, stride, term, group, answers)
+}
+
+// Room for 16 records of one block of 64 rows.
+fn in_1024_ranks(
+    table: &[u8],
+    columns: usize,
+    rows: &[i32],
+    n: usize,
+    stride: usize,
+    term: u8,
+    group: u8,
+    answers: &mut [u16],
+) -> u16
+    requires { ⌜ AskedRows (now table) columns term (now rows) n × StrideFor term stride × Room n stride 1024
+        × (n ≤ length (now answers)) ⌝ }
+    ensures { λ r. ⌜ Selected (beatsIn (termAt (now (table .entry)) term) columns (now (rows .entry)) group) n
+        (now (answers .entry)) (now (answers .exit)) r ⌝ }
+{
+    let mut ranks = [0i32; 1024];
+    prepared(
+        table,
+        columns,
+        rows,
+        n,
+        stride,
+        term,
+        group,
+        &mut ranks,
+        answers,
+    )
+}
+
+// Room for 128 records of one block, or 8 of 16.
+fn in_8192_ranks(
+    table: &[u8],
+    columns: usize,
+    rows: &[i32],
+    n: usize,
+    stride: usize,
+    term: u8,
+    group: u8,
+    answers: &mut [u16],
+) -> u16
+    requires { ⌜ AskedRows (now table) columns term (now rows) n × StrideFor term stride × Room n stride 8192
+        × (n ≤ length (now answers)) ⌝ }
+    ensures { λ r. ⌜ Selected (beatsIn (termAt (now (table .entry)) term) columns (now (rows .entry)) group) n
+        (now (answers .entry)) (now (answers .exit)) r ⌝ }
+{
+    let mut ranks = [0i32; 8192];
+    prepared(
+        table,
+        columns,
+        rows,
+        n,
+        stride,
+        term,
+        group,
+        &mut ranks,
+        answers,
+    )
+}
+
+// Room for 128 records of four blocks, or 32 of 16.
+fn in_32768_ranks(
+    table: &[u8],
+    columns: usize,
+    rows: &[i32],
+    n: usize,
+    stride: usize,
+    term: u8,
+    group: u8,
+    answers: &mut [u16],
+) -> u16
+    requires { ⌜ AskedRows (now table) columns term (now rows) n × StrideFor term stride × Room n stride 32768
+        × (n ≤ length (now answers)) ⌝ }
+    ensures { λ r. ⌜ Selected (beatsIn (termAt (now (table .entry)) term) columns (now (rows .entry)) group) n
+        (now (answers .entry)) (now (answers .exit)) r ⌝ }
+{
+    let mut ranks = [0i32; 32768];
+    prepared(
+        table,
+        columns,
+        rows,
+        n,
+        stride,
+        term,
+        group,
+        &mut ranks,
+        answers,
+    )
+}
+
+// Room for all 128 records of 16 blocks.
+fn in_131072_ranks(
+    table: &[u8],
+    columns: usize,
+    rows: &[i32],
+    n: usize,
+    stride: usize,
+    term: u8,
+    group: u8,
+    answers: &mut [u16],
+) -> u16
+    requires { ⌜ AskedRows (now table) columns term (now rows) n × StrideFor term stride × Room n stride 131072
+        × (n ≤ length (now answers)) ⌝ }
+    ensures { λ r. ⌜ Selected (beatsIn (termAt (now (table .entry)) term) columns (now (rows .entry)) group) n
+        (now (answers .entry)) (now (answers .exit)) r ⌝ }
+{
+    let mut ranks = [0i32; 131072];
+    prepared(
+        table,
+        columns,
+        rows,
+        n,
+        stride,
+        term,
+        group,
+        &mut ranks,
+        answers,
+    )
+}
+
+// Prepares the table's values, what each record tells of the term and what it does, the marks, and the rows' ranks.
+fn prepared(
+    table: &[u8],
+    columns: usize,
+    rows: &[i32],
+    n: usize,
+    stride: usize,
+    term: u8,
+    group: u8,
+    ranks: &mut [i32],
+    answers: &mut [u16],
+) -> u16
+    requires { ⌜ AskedRows (now table) columns term (now rows) n × StrideFor term stride × Room n stride (length (now ranks))
+        × (n ≤ length (now answers)) ⌝ }
+    ensures { λ r. ⌜ Selected (beatsIn (termAt (now (table .entry)) term) columns (now (rows .entry)) group) n
+        (now (answers .entry)) (now (answers .exit)) r ⌝ }
+{
+    let a = numbers(table);
+    let e = run_ends(table);
+    let g = closures(table, &e);
+    let x = exits(table, &a, term);
+    let marks = beneath(table, &a, &x, term);
+    let o = ops(table, &a, term);
+    fill_ranks(table, &a, &e, &marks, term, columns, rows, n, stride, ranks);
+    by_pairs(
+        table,
+        &o,
+        &e,
+        &g,
+        &marks,
+        &x,
+        term,
+        group,
+        columns,
+        rows,
+        n,
+        stride,
+        ranks,
+        answers,
+    )
+}
+
+// Which rows are gone, and by which; then the kept rows and the answers.
+fn by_pairs(
+    table: &[u8],
+    ops: &[u8; 512],
+    ends: &[u8; 128],
+    reach: &[[bool; 32]; 256],
+    marks: &[bool; 128],
+    exits: &[u8; 128],
+    term: u8,
+    group: u8,
+    columns: usize,
+    rows: &[i32],
+    n: usize,
+    stride: usize,
+    ranks: &[i32],
+    answers: &mut [u16],
+) -> u16
+    requires { ⌜ Comparable (now table) (now ops) (now ends) (now reach) (now marks) (now exits) term columns (now rows) n stride
+        (now ranks) × (n ≤ length (now answers)) ⌝ }
+    ensures { λ r. ⌜ Selected (beatsIn (termAt (now (table .entry)) term) columns (now (rows .entry)) group) n
+        (now (answers .entry)) (now (answers .exit)) r ⌝ }
+{
+    let mut gone = [0u8; 1024];
+    let mut by = [0u16; 1024];
+    let mut codes = [0u8; 128];
+    let mut keys = [0u8; 1024];
+    fill_keys(group, columns, rows, n, &mut keys);
+    eliminate(
+        table,
+        ops,
+        ends,
+        reach,
+        marks,
+        exits,
+        term,
+        group,
+        columns,
+        rows,
+        n,
+        stride,
+        ranks,
+        &keys,
+        &mut gone,
+        &mut by,
+        &mut codes,
+    );
+    let mut kept = [0u16; 1024];
+    let m = list_kept(n, &gone, &mut kept);
+    write_answers(
+        table,
+        ops,
+        ends,
+        reach,
+        marks,
+        exits,
+        term,
+        group,
+        columns,
+        rows,
+        n,
+        stride,
+        ranks,
+        &gone,
+        &by,
+        &kept,
+        m,
+        &mut codes,
+        answers,
+    );
+    m as u16
+}

@@ -1,0 +1,64 @@
+-- `parts::vetted::named` meets its contract. Assumes nothing.
+use mathlib.Core.Path.{_∙_}
+use denote.Ref.{now}
+use borrow.Author.Needs.{needs}
+use Rattle.elimination.specs.Rounds.{count-kept}
+use Rattle.entries.specs.Answers.{no-names, rest-named, entries-answers}
+use Rattle.parts.proofs.Blocks.{strict-rows}
+use Rattle.parts.proofs.vetted.named.Statement.{statement}
+use Rattle.parts.proofs.vetted.named.Tie as tie
+
+slice-aggregate-none-named : tie.Need-slice-aggregate-none-named
+slice-aggregate-none-named c = search needs
+
+none-named-requires : tie.Need-none-named-requires
+none-named-requires c κs = search needs
+
+slice-aggregate-name : tie.Need-slice-aggregate-name
+slice-aggregate-name c = search needs
+
+name-requires : tie.Need-name-requires
+name-requires c κs =
+    let z = c .before .before .before in
+    let s = z .before .before .before .before .before .before in
+    let w = z .none-named .ensures in
+    (s .pre .0, s .pre .1, search needs, search needs, s .pre .2, rest-named _ _ w, no-names _ _ _ _ w, s .pre .5)
+
+slice-aggregate-write-answers : tie.Need-slice-aggregate-write-answers
+slice-aggregate-write-answers c = search needs
+
+write-answers-requires : tie.Need-write-answers-requires
+write-answers-requires c κs = search needs
+
+same-length : tie.Need-same-length
+same-length c = search needs
+
+same-length-2 : tie.Need-same-length-2
+same-length-2 c = search needs
+
+returns : tie.Need-returns
+returns c =
+    let w = c .before .before in
+    let m = w .before .before .before .before .before .before in
+    let s = m .before .before .before .before .before .before .before .before .before .before in
+    let x = s .args in
+    let wrote = w .write-answers .ensures in
+    let strict = strict-rows (s .pre .0 .taken) (now (x .rows)) (x .group) in
+    record {
+      counted = wrote .0 ∙ count-kept _ _ _ (s .pre .2);
+      written = wrote .1 ∙ entries-answers _ strict _ _ _ (s .pre .2) (m .name .ensures) (now (x .answers));
+    }
+
+pub named-spec : {M : Type 1} → statement M
+named-spec =
+    tie.close
+    (tie.spec
+    slice-aggregate-none-named
+    none-named-requires
+    slice-aggregate-name
+    name-requires
+    slice-aggregate-write-answers
+    write-answers-requires
+    same-length
+    same-length-2
+    returns)

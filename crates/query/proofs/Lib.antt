@@ -1,3 +1,0 @@
-pub mod Taken
-pub mod Pairs
-pub mod Blocks

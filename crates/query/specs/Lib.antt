@@ -1,2 +1,0 @@
--- What an engine does for a query that refuses nothing.
-pub mod Selected
