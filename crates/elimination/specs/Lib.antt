@@ -5,3 +5,4 @@ pub mod Rounds
 pub mod Meetings
 pub mod Beaten
 pub mod Beats
+pub mod Firsts

@@ -1,12 +1,12 @@
 // The buffers at the start, and the answers at the end. No public calls: each asks that its buffers have room. `gone` has 0 for
 // a row that is not gone; `by` has the row that is named for a row, or 1024 for none yet.
 ghost use mathlib.Core.Path.{_≡_};
-ghost use Prim.Native.Nat.{_≤_};
+ghost use Prim.Native.Nat.{_<_, _≤_};
 ghost use lib.Dec.{eqb};
 ghost use lib.ListN.{length, getD};
 ghost use Rattle.model.specs.Search.{countBelow, fill};
 ghost use Rattle.lanes.specs.Wrote.{Wrote};
-ghost use Rattle.entries.specs.Entry.{entryOf};
+ghost use Rattle.entries.specs.Entry.{entryOf, nameOf, firstName};
 
 // The first n rows are not gone.
 pub fn none_gone(n: usize, gone: &mut [u8])
@@ -20,16 +20,29 @@ pub fn none_gone(n: usize, gone: &mut [u8])
     }
 }
 
-// The first n rows have no name.
-pub fn none_named(n: usize, by: &mut [u16])
-    requires { ⌜ (n ≤ 1024) × (n ≤ length (now by)) ⌝ }
-    ensures { λ _. ⌜ Wrote 0 (λ j. 1024) 0 n (now (by .entry)) (now (by .exit)) ⌝ }
+// The names of the first n rows that are known before a row names: a kept row in whose round a row was dropped.
+pub fn first_names(n: usize, gone: &[u8], first: &[u16], by: &mut [u16])
+    requires { ⌜ (n ≤ 1024) × (n ≤ length (now gone)) × (n ≤ length (now first)) × (n ≤ length (now by)) ⌝ }
+    ensures { λ _. ⌜ Wrote 0 (firstName (now (gone .entry)) (now (first .entry))) 0 n (now (by .entry)) (now (by .exit)) ⌝ }
 {
     let mut j = 0;
     while j < n {
-        by[j] = 1024;
+        by[j] = first_name(gone, j, first[j]);
         j += 1;
     }
+}
+
+fn first_name(gone: &[u8], j: usize, first: u16) -> u16
+    requires { ⌜ j < length (now gone) ⌝ }
+    ensures { λ r. ⌜ r ≡ nameOf (now (gone .entry)) j first ⌝ }
+{
+    let at = first as usize;
+    if at < j {
+        if gone[at] == 0 {
+            return first;
+        }
+    }
+    1024
 }
 
 // Writes an entry for each of the n rows. Returns how many are kept.

@@ -11,6 +11,8 @@ use lib.ListN.{getD}
 use mir.Val.{boolByte}
 use Rattle.model.specs.Search.{anyBelow}
 use Rattle.model.specs.Bytes.{eqZ}
+use Rattle.laws.specs.Search.{none-e}
+use Rattle.lanes.specs.Wrote.{Wrote}
 use Rattle.live.specs.Live.{lit, hit, equalLane, keyLane, goneLane, nameLane}
 
 -- Some lane below j + 1.
@@ -61,3 +63,14 @@ lit-byte live j b e =
     back : (b : Bool) → eqb (boolByte b) 1 ≡ b
     back true = refl
     back false = refl
+
+-- Where no lane is hit every name stays.
+pub names-stay : (by : List ℕ) (at : ℕ) (live codes : List ℕ) (top i : ℕ) → anyBelow 64 (hit live codes top 1) ≡ false
+    → Wrote 0 (nameLane by at live codes top i) at 64 by by
+unfolding nameLane
+names-stay by at live codes top i none =
+    record {
+      made = λ j l. rw (none-e 64 (hit live codes top 1) none j l);
+      below = λ x l. refl;
+      above = λ x l. refl;
+    }

@@ -1,7 +1,7 @@
 -- Naming, over any relation: the kept rows, in rising order, name the rows that they beat, so that each dropped row has the
 -- lowest. Assumes nothing.
 use mathlib.Core.Path.{_≡_, refl, sym, _∙_}
-use mathlib.Core.Logic.{⊎-elim}
+use mathlib.Core.Logic.{inl, inr, ⊎-elim}
 use mathlib.Core.Bool.{Bool, true, false, cond, not, _&&_}
 use mathlib.Core.List.{List}
 use Prim.Native.Nat.{ℕ, _+_, _<_, _≤_}
@@ -16,7 +16,7 @@ use Rattle.elimination.specs.Elimination.{Settled}
 use Rattle.lanes.specs.Wrote.{Wrote}
 use Rattle.live.specs.Live.{pending, hit, nameLane}
 use Rattle.live.specs.Alive.{Beyond}
-use Rattle.naming.specs.Naming.{named, Named, Naming}
+use Rattle.naming.specs.Naming.{named, Right, Named, Naming}
 use Rattle.rounds.proofs.Hits.{Hits, Dark, in-block}
 use Rattle.naming.proofs.Lowest.{named-next, named-dropped}
 
@@ -49,10 +49,15 @@ module _ (beats : Rel ℕ) (n i lo : ℕ) (gone by : List ℕ) (settled : Settle
   -- What lane j's entry is to be.
   lane-named : (j : ℕ) (h : Bool) → lo + j < n → kept n beats (lo + j) ≡ false
       → h ≡ (pending gone by lo j && beats i (lo + j))
-      → cond h i (getD by (lo + j) 0) ≡ named beats n (i + 1) (lo + j)
+      → Right beats n (i + 1) (lo + j) (cond h i (getD by (lo + j) 0))
   lane-named j h l d e =
-      rw (e, pending-gone gone by lo j (settled .each (lo + j) l ∙ d))
-      (named-next beats n i (lo + j) k few (naming .left (lo + j) (omega arith) l d))
+      let here = pending-gone gone by lo j (settled .each (lo + j) l ∙ d) in
+      ⊎-elim
+      (λ r. inl (rw (e, here) (named-next beats n i (lo + j) k few r)))
+      (λ f. let off : h ≡ false =
+      e ∙ rw (here, ne-eqb (getD by (lo + j) 0) 1024 (λ q. omega (arith, f .0, q))) in
+      rw off (inr f))
+      (naming .left (lo + j) (omega arith) l d)
 
   -- No row of the block is without a name and beaten by row i.
   pub names-none : Dark beats n i lo (pending gone by lo) → Naming beats n i (lo + 64) by
@@ -81,13 +86,13 @@ module _ (beats : Rel ℕ) (n i lo : ℕ) (gone by : List ℕ) (settled : Settle
     names-some =
         record {
           done = λ x p l d. in-block x lo
-              (λ u. wrote .below x u ∙ naming .done x u l d)
+              (λ u. rw (wrote .below x u) (naming .done x u l d))
               (λ j u v. let f : lo + j < n = omega arith in
               let c : kept n beats (lo + j) ≡ false = rw v at d in
-              rw v (wrote .made j u ∙ name-lane by lo live codes top i j
-              ∙ lane-named j (hit live codes top 1 j) f c (hits .one j u f)))
+              rw v (rw (wrote .made j u ∙ name-lane by lo live codes top i j)
+              (lane-named j (hit live codes top 1 j) f c (hits .one j u f))))
               (λ u. absurd (omega arith));
-          left = λ x p l d. wrote .above x p ∙ naming .left x (omega arith) l d;
+          left = λ x p l d. rw (wrote .above x p) (naming .left x (omega arith) l d);
         }
 
     -- Lanes that are no rows need no name still.
@@ -117,4 +122,7 @@ module _ (beats : Rel ℕ) (n i : ℕ) (by : List ℕ) where
 
   -- A row that is dropped names none.
   pub named-gone : kept n beats i ≡ false → Named beats n i by → Named beats n (i + 1) by
-  named-gone k r = record { each = λ j h d. r .each j h d ∙ sym (named-dropped beats n i j k) }
+  named-gone k r =
+      record {
+        each = λ j h d. ⊎-elim (λ e. inl (e ∙ sym (named-dropped beats n i j k))) (λ f. inr f) (r .each j h d);
+      }

@@ -3,8 +3,8 @@
 // are beaten are gone; then the kept rows name the rows that they beat.
 use cells::vetted::keys::fill_keys;
 use cells::vetted::values::fill_values;
+use entries::vetted::first_names;
 use entries::vetted::none_gone;
-use entries::vetted::none_named;
 use entries::vetted::write_answers;
 use exits::vetted::exits;
 use naming::vetted::name;
@@ -21,6 +21,7 @@ ghost use Rattle.model.specs.Term.{termAt};
 ghost use Rattle.model.specs.Query.{beatsIn, rowCount};
 ghost use Rattle.laws.specs.Taken.{Taken};
 ghost use Rattle.elimination.specs.Elimination.{Settled};
+ghost use Rattle.elimination.specs.Firsts.{Firsts};
 ghost use Rattle.cells.specs.Keys.{Keyed};
 ghost use Rattle.cells.specs.Values.{Room};
 ghost use Rattle.blocks.specs.Blocks.{Ready};
@@ -436,6 +437,7 @@ fn by_blocks(
     let mut codes = [0u8; 8192];
     let mut gone = [1u8; 1024];
     none_gone(n, &mut gone);
+    let mut first = [1024u16; 1024];
     eliminate(
         table,
         numbers,
@@ -453,6 +455,7 @@ fn by_blocks(
         values,
         &keys,
         &mut gone,
+        &mut first,
         &mut codes,
     );
     named(
@@ -472,6 +475,7 @@ fn by_blocks(
         values,
         &keys,
         &gone,
+        &first,
         &mut codes,
         answers,
     )
@@ -495,18 +499,20 @@ fn named(
     values: &[i32],
     keys: &[u8; 1024],
     gone: &[u8],
+    first: &[u16; 1024],
     codes: &mut [u8],
     answers: &mut [u16],
 ) -> u16
     requires { ⌜ Ready (now table) (now numbers) (now ends) (now reach) (now marks) (now exits) term columns (now rows) n stride
         (now ranks) (now values) × (length (now gone) ≡ 1024) × Settled (beatsIn (termAt (now table) term) columns (now rows) group) n (now gone)
         × (8192 ≤ length (now codes)) × (n ≤ length (now answers))
-        × Keyed group columns (now rows) n (now keys) ⌝ }
+        × Keyed group columns (now rows) n (now keys)
+        × Firsts (beatsIn (termAt (now table) term) columns (now rows) group) n (now gone) (now first) ⌝ }
     ensures { λ r. ⌜ Selected (beatsIn (termAt (now (table .entry)) term) columns (now (rows .entry)) group) n
         (now (answers .entry)) (now (answers .exit)) r ⌝ }
 {
     let mut by = [0u16; 1024];
-    none_named(n, &mut by);
+    first_names(n, gone, first, &mut by);
     name(
         table,
         numbers,

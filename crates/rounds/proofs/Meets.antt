@@ -1,27 +1,28 @@
 -- One block of a round, over any relation: row i meets the rows of the block, the first of which is row lo. Assumes nothing.
 use mathlib.Core.Path.{_≡_, refl, sym, _∙_}
 use mathlib.Core.Logic.{_⊎_, inl, inr, ⊎-elim}
-use mathlib.Core.Bool.{Bool, true, false, not, _||_, false≢true}
+use mathlib.Core.Bool.{Bool, true, false, cond, not, _||_, false≢true}
 use mathlib.Core.List.{List}
 use Prim.Native.Nat.{ℕ, _+_, _<_, _≤_}
 use native.Mathlib.Omega.{arith}
 use lib.Dec.{eqb}
-use lib.ListN.{getD, set}
-use lib.Seq.{getD-set-other}
+use lib.ListN.{length, getD, set}
+use lib.Seq.{getD-set-same, getD-set-other}
 use mir.Val.{boolByte}
 use borrow.Author.Tests.{eq-eqb, eqb-true, eqb-false}
 use Rattle.model.specs.Search.{anyBelow}
 use Rattle.model.specs.Query.{kept}
-use Rattle.laws.specs.Bools.{and-r}
+use Rattle.laws.specs.Bools.{and-l, and-r, on-or-off}
 use Rattle.laws.specs.Search.{any-e, none-e}
 use Rattle.laws.specs.Members.{and-off}
 use Rattle.laws.specs.Order.{Rel}
 use Rattle.laws.specs.Select.{dropped-i}
 use Rattle.elimination.specs.Cases.{below-or-not}
 use Rattle.elimination.specs.Elimination.{Apart, Turn, Met}
+use Rattle.elimination.specs.Firsts.{Firsts, firsts-less}
 use Rattle.elimination.specs.Rounds.{rounds-more, turn-more, turn-met}
 use Rattle.lanes.specs.Wrote.{Wrote}
-use Rattle.live.specs.Live.{free, hit, goneLane}
+use Rattle.live.specs.Live.{free, hit, goneLane, nameLane}
 use Rattle.live.specs.Alive.{Above}
 use Rattle.rounds.proofs.Hits.{Hits, Dark, in-block}
 
@@ -124,6 +125,51 @@ module _ (beats : Rel ℕ) (n i lo : ℕ) (gone : List ℕ) (row : i < n) (turn 
               (λ u. absurd (omega arith));
         }
 
+    -- Where a row goes in row i's round, no lower row that is not gone beats it.
+    module _ (first named : List ℕ) (wrote-first : Wrote 0 (nameLane first lo live codes top i) lo 64 first named)
+        (before : Firsts beats n gone first) where
+      -- Lane j's row is named row i, or what it was.
+      lane : (j : ℕ) → j < 64 → getD named (lo + j) 0 ≡ cond (hit live codes top 1 j) i (getD first (lo + j) 0)
+      unfolding nameLane
+      lane j l = wrote-first .made j l
+
+      abbrev Fine : ℕ → ℕ → Type 0
+      Fine j v = v < j → (beats v j ≡ true) × ((a : ℕ) → a < v → getD new a 0 ≡ 0 → beats a j ≡ false)
+
+      old-fine : (j : ℕ) → j < n → Fine j (getD first j 0)
+      old-fine j l h = (before .beaten j l h, λ a o z. before .lowest j l h a o (stay a (omega (arith, o, h, l)) z))
+
+      new-fine : (j : ℕ) → j < 64 → lo + j < n → hit live codes top 1 j ≡ true → Fine (lo + j) i
+      unfolding free
+      new-fine j l h e less =
+          let both = sym (hits .one j l h) ∙ e in
+          let here = eqb-true (getD gone (lo + j) 0) 0 (and-l (free gone lo j) (beats i (lo + j)) both) in (
+            and-r (free gone lo j) (beats i (lo + j)) both,
+            λ a o z. turn .rest .apart a (lo + j) o (omega (arith, o, less)) h (stay a (omega (arith, o, row)) z) here .0,
+          )
+
+      fine : (j : ℕ) → j < n → Fine j (getD named j 0)
+      fine j l =
+          in-block j lo
+          (λ u. rw (wrote-first .below j u) (old-fine j l))
+          (λ k u v. let h : lo + k < n = omega (arith, l, v) in
+          rw v (rw (lane k u) (⊎-elim
+          (λ t. rw t (new-fine k u h t))
+          (λ t. rw t (old-fine (lo + k) h))
+          (on-or-off (hit live codes top 1 k)))))
+          (λ u. rw (wrote-first .above j u) (old-fine j l))
+
+      pub firsts-some : Firsts beats n new named
+      firsts-some =
+          record {
+            beaten = λ j l h. fine j l h .0;
+            lowest = λ j l h a o z. fine j l h .1 a o z;
+          }
+
+    -- Nothing is named where no row goes.
+    pub firsts-none : (first : List ℕ) → Firsts beats n gone first → Firsts beats n new first
+    firsts-none first before = firsts-less beats n gone new first stay before
+
     -- Lanes that are no rows stay gone.
     pub above-some : Above n gone → Above n new
     above-some a =
@@ -139,3 +185,15 @@ module _ (beats : Rel ℕ) (n i lo : ℕ) (gone : List ℕ) (row : i < n) (turn 
 pub above-set : (n i : ℕ) (gone : List ℕ) → i < n → Above n gone → Above n (set gone i 1)
 above-set n i gone l a =
     record { each = λ x p q z. a .each x p q (sym (getD-set-other gone i x 1 0 (λ e. omega arith)) ∙ z) }
+
+pub firsts-set : (beats : Rel ℕ) (n i : ℕ) (gone first : List ℕ) → Firsts beats n gone first → i < length gone
+    → Firsts beats n (set gone i 1) first
+firsts-set beats n i gone first r room = firsts-less beats n gone (set gone i 1) first stay r
+  where
+    stay : (a : ℕ) → a < n → getD (set gone i 1) a 0 ≡ 0 → getD gone a 0 ≡ 0
+    stay a l z =
+        ⊎-elim
+        (λ t. let q = eqb-true a i t in
+        absurd (one-zero (sym (getD-set-same gone i 1 0 room) ∙ rw q at z)))
+        (λ t. sym (getD-set-other gone i a 1 0 (eqb-false a i t)) ∙ z)
+        (on-or-off (eqb a i))

@@ -1,4 +1,5 @@
 // What a row makes of the lit lanes that it beats: code 1.
+use crate::vetted::lit::any_hit;
 ghost use mathlib.Core.Path.{_≡_};
 ghost use mathlib.Core.Bool.{cond};
 ghost use Prim.Native.Nat.{_+_, _≤_};
@@ -15,6 +16,16 @@ pub fn gone_lanes(gone: &mut [u8], at: usize, live: &[u8], codes: &[u8], top: us
     while j < 64 {
         gone[at + j] = (!(gone[at + j] == 0) | ((live[j] == 1) & (codes[top + j] == 1))) as u8;
         j += 1;
+    }
+}
+
+// Row i is named for their rows; nothing is gone through where there are none, as in most blocks of a round.
+pub fn name_hits(by: &mut [u16], at: usize, live: &[u8], codes: &[u8], top: usize, i: u16)
+    requires { ⌜ (at + 64 ≤ length (now by)) × (64 ≤ length (now live)) × (top + 64 ≤ length (now codes)) ⌝ }
+    ensures { λ _. ⌜ Wrote 0 (nameLane (now (by .entry)) at (now (live .entry)) (now (codes .entry)) top i) at 64 (now (by .entry)) (now (by .exit)) ⌝ }
+{
+    if any_hit(live, codes, top, 1) {
+        name_lanes(by, at, live, codes, top, i);
     }
 }
 

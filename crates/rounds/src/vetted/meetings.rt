@@ -1,15 +1,18 @@
-// Which rows are kept: every row that is not gone has its round, in which it meets the later rows block by block.
+// Which rows are kept: every row that is not gone has its round, in which it meets the later rows block by block. `first` has the
+// row in whose round a row was dropped.
 use blocks::vetted::block_codes;
 use live::vetted::group::free_alive;
 use live::vetted::lit::any_hit;
 use live::vetted::lit::any_lit;
 use live::vetted::marks::gone_lanes;
+use live::vetted::marks::name_hits;
 ghost use mathlib.Core.Path.{_≡_};
 ghost use Prim.Native.Nat.{_+_, _*_, _≤_, _<_};
 ghost use lib.ListN.{length};
 ghost use Rattle.model.specs.Term.{termAt};
 ghost use Rattle.model.specs.Query.{beatsIn};
 ghost use Rattle.elimination.specs.Elimination.{Rounds, Turn, Met, Settled};
+ghost use Rattle.elimination.specs.Firsts.{Firsts};
 ghost use Rattle.cells.specs.Keys.{Keyed};
 ghost use Rattle.live.specs.Alive.{Above};
 ghost use Rattle.blocks.specs.Blocks.{Ready};
@@ -32,13 +35,17 @@ pub fn eliminate(
     values: &[i32],
     keys: &[u8; 1024],
     gone: &mut [u8],
+    first: &mut [u16],
     codes: &mut [u8],
 )
     requires { ⌜ Ready (now table) (now numbers) (now ends) (now reach) (now marks) (now exits) term columns (now rows) n stride (now ranks) (now values)
         × (length (now gone) ≡ 1024) × (8192 ≤ length (now codes)) × Above n (now gone)
         × Rounds (beatsIn (termAt (now table) term) columns (now rows) group) n 0 (now gone)
-        × Keyed group columns (now rows) n (now keys) ⌝ }
-    ensures { λ _. ⌜ Settled (beatsIn (termAt (now (table .entry)) term) columns (now (rows .entry)) group) n (now (gone .exit)) ⌝ }
+        × Keyed group columns (now rows) n (now keys)
+        × (length (now first) ≡ 1024)
+        × Firsts (beatsIn (termAt (now table) term) columns (now rows) group) n (now gone) (now first) ⌝ }
+    ensures { λ _. ⌜ Settled (beatsIn (termAt (now (table .entry)) term) columns (now (rows .entry)) group) n (now (gone .exit))
+        × Firsts (beatsIn (termAt (now (table .entry)) term) columns (now (rows .entry)) group) n (now (gone .exit)) (now (first .exit)) ⌝ }
 {
     let mut i = 0;
     while i < n {
@@ -60,6 +67,7 @@ pub fn eliminate(
             keys,
             i,
             gone,
+            first,
             codes,
         );
         i += 1;
@@ -85,14 +93,18 @@ fn round_or_skip(
     keys: &[u8; 1024],
     i: usize,
     gone: &mut [u8],
+    first: &mut [u16],
     codes: &mut [u8],
 )
     requires { ⌜ Ready (now table) (now numbers) (now ends) (now reach) (now marks) (now exits) term columns (now rows) n stride (now ranks) (now values)
         × (i < n) × (length (now gone) ≡ 1024) × (8192 ≤ length (now codes)) × Above n (now gone)
         × Rounds (beatsIn (termAt (now table) term) columns (now rows) group) n i (now gone)
-        × Keyed group columns (now rows) n (now keys) ⌝ }
+        × Keyed group columns (now rows) n (now keys)
+        × (length (now first) ≡ 1024)
+        × Firsts (beatsIn (termAt (now table) term) columns (now rows) group) n (now gone) (now first) ⌝ }
     ensures { λ _. ⌜ Rounds (beatsIn (termAt (now (table .entry)) term) columns (now (rows .entry)) group) n (i + 1) (now (gone .exit))
-        × Above n (now (gone .exit)) ⌝ }
+        × Above n (now (gone .exit))
+        × Firsts (beatsIn (termAt (now (table .entry)) term) columns (now (rows .entry)) group) n (now (gone .exit)) (now (first .exit)) ⌝ }
 {
     if gone[i] == 0 {
         round(
@@ -113,6 +125,7 @@ fn round_or_skip(
             keys,
             i,
             gone,
+            first,
             codes,
         );
     }
@@ -137,14 +150,18 @@ fn round(
     keys: &[u8; 1024],
     i: usize,
     gone: &mut [u8],
+    first: &mut [u16],
     codes: &mut [u8],
 )
     requires { ⌜ Ready (now table) (now numbers) (now ends) (now reach) (now marks) (now exits) term columns (now rows) n stride (now ranks) (now values)
         × (i < n) × (length (now gone) ≡ 1024) × (8192 ≤ length (now codes)) × Above n (now gone)
         × Rounds (beatsIn (termAt (now table) term) columns (now rows) group) n i (now gone)
-        × Keyed group columns (now rows) n (now keys) ⌝ }
+        × Keyed group columns (now rows) n (now keys)
+        × (length (now first) ≡ 1024)
+        × Firsts (beatsIn (termAt (now table) term) columns (now rows) group) n (now gone) (now first) ⌝ }
     ensures { λ _. ⌜ Rounds (beatsIn (termAt (now (table .entry)) term) columns (now (rows .entry)) group) n (i + 1) (now (gone .exit))
-        × Above n (now (gone .exit)) ⌝ }
+        × Above n (now (gone .exit))
+        × Firsts (beatsIn (termAt (now (table .entry)) term) columns (now (rows .entry)) group) n (now (gone .exit)) (now (first .exit)) ⌝ }
 {
     let mut b = (i + 1) / 64;
     while b * 64 < n {
@@ -167,6 +184,7 @@ fn round(
             i,
             b,
             gone,
+            first,
             codes,
         ) {
             gone[i] = 1;
@@ -197,14 +215,18 @@ fn meet_block(
     i: usize,
     b: usize,
     gone: &mut [u8],
+    first: &mut [u16],
     codes: &mut [u8],
 ) -> bool
     requires { ⌜ Ready (now table) (now numbers) (now ends) (now reach) (now marks) (now exits) term columns (now rows) n stride (now ranks) (now values)
         × (i < n) × (b * 64 < n) × (length (now gone) ≡ 1024) × (8192 ≤ length (now codes)) × Above n (now gone)
         × Turn (beatsIn (termAt (now table) term) columns (now rows) group) n i (b * 64) (now gone)
-        × Keyed group columns (now rows) n (now keys) ⌝ }
+        × Keyed group columns (now rows) n (now keys)
+        × (length (now first) ≡ 1024)
+        × Firsts (beatsIn (termAt (now table) term) columns (now rows) group) n (now gone) (now first) ⌝ }
     ensures { λ r. ⌜ Met (beatsIn (termAt (now (table .entry)) term) columns (now (rows .entry)) group) n i (b * 64 + 64) (now (gone .exit)) r
-        × Above n (now (gone .exit)) ⌝ }
+        × Above n (now (gone .exit))
+        × Firsts (beatsIn (termAt (now (table .entry)) term) columns (now (rows .entry)) group) n (now (gone .exit)) (now (first .exit)) ⌝ }
 {
     let mut live = [0u8; 64];
     free_alive(group, columns, rows, n, values, keys, i, b, gone, &mut live);
@@ -229,7 +251,9 @@ fn meet_block(
             codes,
         );
         let top = (term as usize) * 64;
-        gone_lanes(gone, b * 64, &live, codes, top);
+        let at = b * 64;
+        gone_lanes(gone, at, &live, codes, top);
+        name_hits(first, at, &live, codes, top, i as u16);
         return any_hit(&live, codes, top, 2);
     }
     false

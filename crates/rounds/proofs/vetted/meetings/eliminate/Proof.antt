@@ -1,5 +1,5 @@
 -- `rounds::vetted::meetings::eliminate` meets its contract: the rounds of the rows below i are over. Assumes nothing.
-use mathlib.Core.Path.{_≡_, refl}
+use mathlib.Core.Path.{_≡_, refl, _∙_}
 use Prim.Native.Nat.{_-_, _≤_}
 use native.Mathlib.Nat.{le-antisymm}
 use native.Mathlib.Omega.{arith}
@@ -8,6 +8,7 @@ use borrow.Author.Needs.{needs}
 use Rattle.model.specs.Term.{termAt}
 use Rattle.model.specs.Query.{beatsIn}
 use Rattle.elimination.specs.Elimination.{Rounds}
+use Rattle.elimination.specs.Firsts.{Firsts}
 use Rattle.elimination.specs.Rounds.{settled-of}
 use Rattle.live.specs.Alive.{Above}
 use Rattle.rounds.proofs.Hits.{ready-strict}
@@ -15,24 +16,25 @@ use Rattle.rounds.proofs.vetted.meetings.eliminate.Statement.{statement
 use Rattle.rounds.proofs.vetted.meetings.eliminate.Tie as tie
 
 abbrev Inv-loop : tie.InvT-loop
-Inv-loop table numbers ends reach marks exits term group columns rows n stride ranks values keys gone₀ codes₀ i₀ gone codes i =
+Inv-loop table numbers ends reach marks exits term group columns rows n stride ranks values keys gone₀ first₀ codes₀ i₀ gone first codes i =
     (i ≤ n) × (length gone ≡ length gone₀) × (length codes ≡ length codes₀)
     × Rounds (beatsIn (termAt table term) columns rows group) n i gone × Above n gone
+    × (length first ≡ length first₀) × Firsts (beatsIn (termAt table term) columns rows group) n gone first
 
 abbrev μ-loop : tie.MeasureT-loop
-μ-loop table numbers ends reach marks exits term group columns rows n stride ranks values keys gone₀ codes₀ i₀ gone codes i = n - i
+μ-loop table numbers ends reach marks exits term group columns rows n stride ranks values keys gone₀ first₀ codes₀ i₀ gone first codes i = n - i
 
 loop-holds : tie.Need-loop-holds Inv-loop μ-loop
 loop-holds c =
-    let p = c .before .before .before .pre in
-    (omega arith, refl, refl, p .4, p .3)
+    let p = c .before .before .before .before .pre in
+    (omega arith, refl, refl, p .4, p .3, refl, p .7)
 
 round-or-skip-requires : tie.Need-round-or-skip-requires Inv-loop μ-loop
 round-or-skip-requires c κs =
-    let s = c .before .before .before in
-    let p = s .before .before .before .before .pre in
+    let s = c .before .before .before .before in
+    let p = s .before .before .before .before .before .pre in
     let v = s .loop .inv in
-    (p .0, search needs, omega arith, omega arith, v .4, v .3, p .5)
+    (p .0, search needs, omega arith, omega arith, v .4, v .3, p .5, v .5 ∙ p .6, v .6)
 
 add-i : tie.Need-add-i Inv-loop μ-loop
 add-i c = search needs
@@ -42,8 +44,8 @@ loop-less c = search needs
 
 loop-again : tie.Need-loop-again Inv-loop μ-loop
 loop-again c =
-    let e = c .before .before .before .before .round-or-skip .ensures in
-    (omega arith, omega arith, omega arith, e .0, e .1)
+    let e = c .before .before .before .before .before .before .round-or-skip .ensures in
+    (omega arith, omega arith, omega arith, e .0, e .1, omega arith, e .2)
 
 same-length : tie.Need-same-length Inv-loop μ-loop
 same-length c = search needs
@@ -51,12 +53,15 @@ same-length c = search needs
 same-length-2 : tie.Need-same-length-2 Inv-loop μ-loop
 same-length-2 c = search needs
 
+same-length-3 : tie.Need-same-length-3 Inv-loop μ-loop
+same-length-3 c = search needs
+
 returns : tie.Need-returns Inv-loop μ-loop
 returns c =
     let v = c .before .loop .inv in
-    let p = c .before .before .before .before .before .pre in
+    let p = c .before .before .before .before .before .before .pre in
     let q = le-antisymm (v .0) (c .loop-test .left) in
-    settled-of _ _ _ (ready-strict (p .0) _) (rw q at (v .3))
+    (settled-of _ _ _ (ready-strict (p .0) _) (rw q at (v .3)), v .6)
 
 pub eliminate-spec : {M : Type 1} → statement M
 eliminate-spec =
@@ -71,4 +76,5 @@ eliminate-spec =
     loop-again
     same-length
     same-length-2
+    same-length-3
     returns)

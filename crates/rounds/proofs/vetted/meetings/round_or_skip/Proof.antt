@@ -17,14 +17,17 @@ same-length c = search needs
 same-length-2 : tie.Need-same-length-2
 same-length-2 c = search needs
 
+same-length-3 : tie.Need-same-length-3
+same-length-3 c = search needs
+
 returns : tie.Need-returns
 returns c = search needs
 
 returns-2 : tie.Need-returns-2
 returns-2 c =
-    let p = c .before .before .before .before .before .pre in
-    (turn-gone _ _ _ _ (c .if1 .left) (p .5), p .4)
+    let p = c .before .before .before .before .before .before .pre in
+    (turn-gone _ _ _ _ (c .if1 .left) (p .5), p .4, p .8)
 
 pub round-or-skip-spec : {M : Type 1} → statement M
 round-or-skip-spec =
-    tie.close (tie.spec slice-read-if1 round-requires same-length same-length-2 returns returns-2)
+    tie.close (tie.spec slice-read-if1 round-requires same-length same-length-2 same-length-3 returns returns-2)
