@@ -2,7 +2,7 @@
 -- better". Assumes nothing.
 use mathlib.Core.Path.{_≡_, refl, sym, _∙_}
 use mathlib.Core.Logic.{inl, inr, ⊎-elim}
-use mathlib.Core.Bool.{true, false}
+use mathlib.Core.Bool.{true, false, and-false}
 use mathlib.Core.List.{List}
 use Prim.Native.Nat.{ℕ, _+_, _<_, _≤_}
 use native.Mathlib.Omega.{arith}
@@ -62,7 +62,7 @@ module _ (beats : Rel ℕ) (n : ℕ) (few : n ≤ 1024) (gone first : List ℕ) 
     unfolding keptBetter
     none-lower a o =
         ⊎-elim
-        (λ e. rw (e, firsts .lowest i l less a o (kept-stays a (omega (arith, o, less, l)) e)))
+        (λ e. rw (firsts .lowest i l less a o (kept-stays a (omega (arith, o, less, l)) e)) (and-false (kept n beats a)))
         (λ e. rw e)
         (on-or-off (kept n beats a))
 
@@ -100,7 +100,9 @@ rest-named n by w =
 pub no-firsts : (beats : Rel ℕ) (n : ℕ) (gone : List ℕ) → n ≤ 1024 → Firsts beats n gone (replicate 1024 1024)
 no-firsts beats n gone few =
     firsts-start beats n gone (replicate 1024 1024)
-    (λ j l. omega (arith, getD-replicate 1024 j 1024 0 (omega (arith, l, few)), l, few))
+    (λ j l.
+    let is : getD (replicate 1024 1024) j 0 ≡ 1024 = getD-replicate {A = ℕ} 1024 j 1024 0 (omega (arith, l, few)) in
+    omega (arith, is, l, few))
 
 -- ---- the end
 

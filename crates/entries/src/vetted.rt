@@ -21,8 +21,8 @@ pub fn none_gone(n: usize, gone: &mut [u8])
 }
 
 // The names of the first n rows that are known before a row names: a kept row in whose round a row was dropped.
-pub fn first_names(n: usize, gone: &[u8], first: &[u16], by: &mut [u16])
-    requires { ⌜ (n ≤ 1024) × (n ≤ length (now gone)) × (n ≤ length (now first)) × (n ≤ length (now by)) ⌝ }
+pub fn first_names(n: usize, gone: &[u8], first: &[u16; 1024], by: &mut [u16])
+    requires { ⌜ (n ≤ 1024) × (n ≤ length (now gone)) × (n ≤ length (now by)) ⌝ }
     ensures { λ _. ⌜ Wrote 0 (firstName (now (gone .entry)) (now (first .entry))) 0 n (now (by .entry)) (now (by .exit)) ⌝ }
 {
     let mut j = 0;

@@ -1,7 +1,8 @@
 -- `parts::vetted::by_blocks` meets its contract. Assumes nothing.
+use mathlib.Core.Path.{refl}
 use native.Mathlib.Omega.{arith}
 use borrow.Author.Needs.{needs}
-use Rattle.entries.specs.Answers.{no-rounds, rest-gone}
+use Rattle.entries.specs.Answers.{no-rounds, rest-gone, no-firsts}
 use Rattle.selection.specs.Taken.{few-columns}
 use Rattle.parts.proofs.vetted.by_blocks.Statement.{statement}
 use Rattle.parts.proofs.vetted.by_blocks.Tie as tie
@@ -26,13 +27,24 @@ slice-aggregate-eliminate c = search needs
 slice-aggregate-eliminate-2 : tie.Need-slice-aggregate-eliminate-2
 slice-aggregate-eliminate-2 c = search needs
 
+slice-aggregate-eliminate-3 : tie.Need-slice-aggregate-eliminate-3
+slice-aggregate-eliminate-3 c = search needs
+
 eliminate-requires : tie.Need-eliminate-requires
 eliminate-requires c κs =
-    let z = c .before .before .before .before in
+    let z = c .before .before .before .before .before in
     let k = z .before .before .before in
     let s = k .before .before .before .before in
-    let w = z .none-gone .ensures in
-    (s .pre .0, search needs, search needs, rest-gone _ _ w, no-rounds _ _ _ _ w, k .fill-keys .ensures)
+    let w = z .none-gone .ensures in (
+      s .pre .0,
+      c .before .before .before .before .gone2 .given,
+      search needs,
+      rest-gone _ _ w,
+      no-rounds _ _ _ _ w,
+      k .fill-keys .ensures,
+      refl,
+      no-firsts _ _ _ (s .pre .0 .few),
+    )
 
 slice-aggregate-named : tie.Need-slice-aggregate-named
 slice-aggregate-named c = search needs
@@ -42,15 +54,16 @@ slice-aggregate-named-2 c = search needs
 
 named-requires : tie.Need-named-requires
 named-requires c κs =
-    let e = c .before .before .before .before .before .before in
-    let k = e .before .before .before .before .before .before .before .before in
+    let e = c .before .before .before .before .before .before .before .before in
+    let k = e .before .before .before .before .before .before .before .before .before in
     let s = k .before .before .before .before in (
       s .pre .0,
-      c .before .before .before .before .before .gone4 .given,
-      e .eliminate .ensures,
-      rw (c .before .before .before .before .codes2 .given) (omega arith),
+      c .before .before .before .before .before .before .before .gone4 .given,
+      e .eliminate .ensures .0,
+      rw (c .before .before .before .before .before .codes2 .given) (omega arith),
       s .pre .1,
       k .fill-keys .ensures,
+      e .eliminate .ensures .1,
     )
 
 same-length : tie.Need-same-length
@@ -69,6 +82,7 @@ by-blocks-spec =
     none-gone-requires
     slice-aggregate-eliminate
     slice-aggregate-eliminate-2
+    slice-aggregate-eliminate-3
     eliminate-requires
     slice-aggregate-named
     slice-aggregate-named-2

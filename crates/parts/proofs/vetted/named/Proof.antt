@@ -3,16 +3,19 @@ use mathlib.Core.Path.{_∙_}
 use denote.Ref.{now}
 use borrow.Author.Needs.{needs}
 use Rattle.elimination.specs.Rounds.{count-kept}
-use Rattle.entries.specs.Answers.{no-names, rest-named, entries-answers}
+use Rattle.entries.specs.Answers.{known-names, rest-named, entries-answers}
 use Rattle.parts.proofs.Blocks.{strict-rows}
 use Rattle.parts.proofs.vetted.named.Statement.{statement}
 use Rattle.parts.proofs.vetted.named.Tie as tie
 
-slice-aggregate-none-named : tie.Need-slice-aggregate-none-named
-slice-aggregate-none-named c = search needs
+slice-aggregate-first-names : tie.Need-slice-aggregate-first-names
+slice-aggregate-first-names c = search needs
 
-none-named-requires : tie.Need-none-named-requires
-none-named-requires c κs = search needs
+first-names-requires : tie.Need-first-names-requires
+first-names-requires c κs =
+    let p = c .before .before .before .before .before .pre in
+    let few = p .0 .few in
+    (few, rw (p .1) few, few)
 
 slice-aggregate-name : tie.Need-slice-aggregate-name
 slice-aggregate-name c = search needs
@@ -21,8 +24,16 @@ name-requires : tie.Need-name-requires
 name-requires c κs =
     let z = c .before .before .before in
     let s = z .before .before .before .before .before .before in
-    let w = z .none-named .ensures in
-    (s .pre .0, s .pre .1, search needs, search needs, s .pre .2, rest-named _ _ w, no-names _ _ _ _ w, s .pre .5)
+    let w = z .first-names .ensures in (
+      s .pre .0,
+      s .pre .1,
+      search needs,
+      search needs,
+      s .pre .2,
+      rest-named _ _ w,
+      known-names _ _ (s .pre .0 .few) _ _ (s .pre .2) (s .pre .6) _ _ w,
+      s .pre .5,
+    )
 
 slice-aggregate-write-answers : tie.Need-slice-aggregate-write-answers
 slice-aggregate-write-answers c = search needs
@@ -53,8 +64,8 @@ pub named-spec : {M : Type 1} → statement M
 named-spec =
     tie.close
     (tie.spec
-    slice-aggregate-none-named
-    none-named-requires
+    slice-aggregate-first-names
+    first-names-requires
     slice-aggregate-name
     name-requires
     slice-aggregate-write-answers

@@ -1,23 +1,34 @@
--- `entries::vetted::none_named` meets its contract: the entries 1024 stand from row 0 up. Assumes nothing.
+-- `entries::vetted::first_names` meets its contract. Assumes nothing.
 use mathlib.Core.Path.{_≡_, refl}
 use Prim.Native.Nat.{_-_, _≤_}
-use native.Mathlib.Nat.{le-antisymm}
 use native.Mathlib.Omega.{arith}
+use native.Mathlib.Nat.{le-antisymm}
 use lib.ListN.{length, length-set}
 use borrow.Author.Needs.{needs}
 use Rattle.lanes.specs.Wrote.{Wrote}
 use Rattle.lanes.specs.Writes.{wrote-none, wrote-head}
-use Rattle.entries.proofs.vetted.none_named.Statement.{statement}
-use Rattle.entries.proofs.vetted.none_named.Tie as tie
+use Rattle.entries.specs.Entry.{firstName}
+use Rattle.entries.proofs.vetted.first_names.Statement.{statement}
+use Rattle.entries.proofs.vetted.first_names.Tie as tie
 
 abbrev Inv-loop : tie.InvT-loop
-Inv-loop n by₀ j₀ by j = (j ≤ n) × (length by ≡ length by₀) × Wrote 0 (λ i. 1024) 0 j by₀ by
+Inv-loop n gone first by₀ j₀ by j =
+    (j ≤ n) × (length by ≡ length by₀) × Wrote 0 (firstName gone first) 0 j by₀ by
 
 abbrev μ-loop : tie.MeasureT-loop
-μ-loop n by₀ j₀ by j = n - j
+μ-loop n gone first by₀ j₀ by j = n - j
 
 loop-holds : tie.Need-loop-holds Inv-loop μ-loop
 loop-holds c = (search needs, refl, wrote-none _ _ _ _)
+
+mul-first-name : tie.Need-mul-first-name Inv-loop μ-loop
+mul-first-name c = search needs
+
+element-copy-out-first-name : tie.Need-element-copy-out-first-name Inv-loop μ-loop
+element-copy-out-first-name c = search needs
+
+first-name-requires : tie.Need-first-name-requires Inv-loop μ-loop
+first-name-requires c κs = search needs
 
 mul-by : tie.Need-mul-by Inv-loop μ-loop
 mul-by c = search needs
@@ -32,9 +43,10 @@ loop-less : tie.Need-loop-less Inv-loop μ-loop
 loop-less c = search needs
 
 loop-again : tie.Need-loop-again Inv-loop μ-loop
+unfolding firstName
 loop-again c =
-    let v = c .before .loop .inv in
-    (omega arith, simp length-set (v .1), wrote-head _ _ _ _ _ (v .2) (omega arith) refl)
+    let v = c .before .before .before .loop .inv in
+    (omega arith, simp length-set (v .1), wrote-head _ _ _ _ _ (v .2) (omega arith) (c .first-name .ensures))
 
 same-length : tie.Need-same-length Inv-loop μ-loop
 same-length c = search needs
@@ -45,13 +57,16 @@ returns c =
     let q = le-antisymm (v .0) (c .loop-test .left) in
     rw q at (v .2)
 
-pub none-named-spec : {M : Type 1} → statement M
-none-named-spec =
+pub first-names-spec : {M : Type 1} → statement M
+first-names-spec =
     tie.close
     (tie.spec
     Inv-loop
     μ-loop
     loop-holds
+    mul-first-name
+    element-copy-out-first-name
+    first-name-requires
     mul-by
     slice-write-by
     add-j
