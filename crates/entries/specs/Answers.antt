@@ -77,8 +77,10 @@ module _ (beats : Rel ℕ) (n : ℕ) (few : n ≤ 1024) (gone first : List ℕ) 
   right-name i l =
       ⊎-elim
       (λ t. rw t (⊎-elim
-      (λ z. rw z (inr (omega (arith, ltb-true (getD first i 0) i t, l, few),
-      lowest-named i l (ltb-true (getD first i 0) i t) (eqb-true (getD gone (getD first i 0) 0) 0 z))))
+      (λ z. rw z (inr (
+        omega (arith, ltb-true (getD first i 0) i t, l, few),
+        lowest-named i l (ltb-true (getD first i 0) i t) (eqb-true (getD gone (getD first i 0) 0) 0 z),
+      )))
       (λ z. rw z (inl refl))
       (on-or-off (eqb (getD gone (getD first i 0) 0) 0))))
       (λ t. rw t (inl refl))

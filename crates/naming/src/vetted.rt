@@ -2,7 +2,7 @@
 // name, so that each has the lowest. No public calls: each asks what was prepared before. `gone` has 0 for a row that is not
 // gone; `by` has the row that is named for a row, or 1024 for none yet.
 use blocks::vetted::block_codes;
-use live::vetted::group::pending_alive;
+use live::vetted::group::waiting;
 use live::vetted::lit::any_lit;
 use live::vetted::marks::name_lanes;
 ghost use mathlib.Core.Path.{_≡_};
@@ -220,7 +220,7 @@ fn name_block(
         × Beyond n (now (by .exit)) ⌝ }
 {
     let mut live = [0u8; 64];
-    pending_alive(
+    waiting(
         group,
         columns,
         rows,

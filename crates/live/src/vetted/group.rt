@@ -32,7 +32,7 @@ pub fn free_alive(
 }
 
 // The rows of block b that are gone and have no name, in row i's group.
-pub fn pending_alive(
+pub fn waiting(
     group: u8,
     columns: usize,
     rows: &[i32],
@@ -43,13 +43,13 @@ pub fn pending_alive(
     b: usize,
     gone: &[u8],
     by: &[u16],
-    live: &mut [u8],
+    waits: &mut [u8],
 )
-    requires { ⌜ Cells columns (now rows) n (now values) × (i < n) × (b * 64 < n) × (64 ≤ length (now live)) × (length (now gone) ≡ 1024) × (length (now by) ≡ 1024) × Beyond n (now by) × Keyed group columns (now rows) n (now keys) ⌝ }
-    ensures { λ _. ⌜ Alive group columns (now (rows .entry)) n i b (pending (now (gone .entry)) (now (by .entry)) (b * 64)) (now (live .exit)) ⌝ }
+    requires { ⌜ Cells columns (now rows) n (now values) × (i < n) × (b * 64 < n) × (64 ≤ length (now waits)) × (length (now gone) ≡ 1024) × (length (now by) ≡ 1024) × Beyond n (now by) × Keyed group columns (now rows) n (now keys) ⌝ }
+    ensures { λ _. ⌜ Alive group columns (now (rows .entry)) n i b (pending (now (gone .entry)) (now (by .entry)) (b * 64)) (now (waits .exit)) ⌝ }
 {
-    pending_lanes(gone, by, b * 64, live);
-    group_lanes(group, columns, rows, n, values, keys, i, b, live);
+    pending_lanes(gone, by, b * 64, waits);
+    group_lanes(group, columns, rows, n, values, keys, i, b, waits);
 }
 
 // Puts out the lanes that are not in row i's group. Rows of one group have one key, so that most blocks are left at once where

@@ -7,11 +7,11 @@ use Rattle.naming.proofs.Names.{kept-of, names-some, names-none, beyond
 use Rattle.naming.proofs.vetted.name_block.Statement.{statement}
 use Rattle.naming.proofs.vetted.name_block.Tie as tie
 
-slice-aggregate-pending-alive : tie.Need-slice-aggregate-pending-alive
-slice-aggregate-pending-alive c = search needs
+slice-aggregate-waiting : tie.Need-slice-aggregate-waiting
+slice-aggregate-waiting c = search needs
 
-pending-alive-requires : tie.Need-pending-alive-requires
-pending-alive-requires c κs =
+waiting-requires : tie.Need-waiting-requires
+waiting-requires c κs =
     let p = c .before .before .before .before .before .before .pre in
     (cells (p .0), p .1, p .2, search needs, p .3, p .4, p .8, p .10)
 
@@ -64,7 +64,7 @@ returns c =
     let k = x .before .before .before .before .before .before in
     let f = k .before .before .before .before .before .before .before in
     let p = f .before .before .before .before .before .before .before .pre in
-    let h = ready-hits (p .0) (f .pending-alive .ensures) (k .block-codes .ensures) in
+    let h = ready-hits (p .0) (f .waiting .ensures) (k .block-codes .ensures) in
     let q = kept-of _ _ _ _ (p .6) (p .1) (p .7) in
     let few = row-below (p .0) _ (p .1) in (
       names-some _ _ _ _ _ _ (p .6) q few (p .9) _ _ _ _ h (x .name-lanes .ensures),
@@ -79,7 +79,7 @@ returns-2 c =
     let y = c .before in
     let f = y .before .before .before in
     let p = f .before .before .before .before .before .before .before .pre in
-    let d = ready-dark (p .0) (f .pending-alive .ensures) (sym (y .any-lit .ensures) ∙ c .if1 .left) in
+    let d = ready-dark (p .0) (f .waiting .ensures) (sym (y .any-lit .ensures) ∙ c .if1 .left) in
     let q = kept-of _ _ _ _ (p .6) (p .1) (p .7) in
     (names-none _ _ _ _ _ _ (p .6) q (row-below (p .0) _ (p .1)) (p .9) d, p .8)
 
@@ -87,8 +87,8 @@ pub name-block-spec : {M : Type 1} → statement M
 name-block-spec =
     tie.close
     (tie.spec
-    slice-aggregate-pending-alive
-    pending-alive-requires
+    slice-aggregate-waiting
+    waiting-requires
     slice-aggregate-any-lit
     any-lit-requires
     slice-aggregate-block-codes

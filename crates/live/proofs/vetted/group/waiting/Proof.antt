@@ -1,8 +1,8 @@
--- `live::vetted::group::pending_alive` meets its contract. Assumes nothing.
+-- `live::vetted::group::waiting` meets its contract. Assumes nothing.
 use borrow.Author.Needs.{needs}
 use Rattle.live.proofs.Grouping.{lit-pending, alive, pending-off}
-use Rattle.live.proofs.vetted.group.pending_alive.Statement.{statement}
-use Rattle.live.proofs.vetted.group.pending_alive.Tie as tie
+use Rattle.live.proofs.vetted.group.waiting.Statement.{statement}
+use Rattle.live.proofs.vetted.group.waiting.Tie as tie
 
 mul-pending-lanes : tie.Need-mul-pending-lanes
 mul-pending-lanes c = search needs
@@ -25,7 +25,7 @@ returns c =
     (pending-off _ _ _ _ (p .2) (p .0 .few) (p .6))
     (c .before .before .group-lanes .ensures)
 
-pub pending-alive-spec : {M : Type 1} → statement M
-pending-alive-spec =
+pub waiting-spec : {M : Type 1} → statement M
+waiting-spec =
     tie.close
     (tie.spec mul-pending-lanes pending-lanes-requires group-lanes-requires same-length returns)
