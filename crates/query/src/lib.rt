@@ -46,8 +46,8 @@ pub fn query_by_parts(
     ensures { λ r. ⌜ (r ≡ queryReply (now (table .entry)) columns (now (rows .entry)) term group (now (answers .entry)))
         × (now (answers .exit) ≡ queryBuffer (now (table .entry)) columns (now (rows .entry)) term group (now (answers .entry))) ⌝ }
 {
-    let verdict = query_verdict(table, columns, rows, term, group, answers);
-    match verdict {
+    let vetted = query_verdict(table, columns, rows, term, group, answers);
+    match vetted {
         Verdict::Refused(why) => QueryReply::Refused(why),
         Verdict::Passed => QueryReply::Kept(parts::vetted::selected(
             table,

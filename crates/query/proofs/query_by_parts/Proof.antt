@@ -12,8 +12,8 @@ use Rattle.query.proofs.query_by_parts.Tie as tie
 query-verdict-requires : tie.Need-query-verdict-requires
 query-verdict-requires c κs = search needs
 
-enum-known-verdict : tie.Need-enum-known-verdict
-enum-known-verdict c = search needs
+enum-known-vetted : tie.Need-enum-known-vetted
+enum-known-vetted c = search needs
 
 enum-told : tie.Need-enum-told
 enum-told c = search needs
@@ -40,7 +40,7 @@ same-length c = search needs
 returns : tie.Need-returns
 unfolding queryReply queryBuffer
 returns c =
-    let e = sym (c .before .before .before .query-verdict .ensures) ∙ c .before .verdict .given .1 in
+    let e = sym (c .before .before .before .query-verdict .ensures) ∙ c .before .vetted .given .1 in
     (rw e, rw e)
 
 same-length-2 : tie.Need-same-length-2
@@ -59,7 +59,7 @@ query-by-parts-spec =
     tie.close
     (tie.spec
     query-verdict-requires
-    enum-known-verdict
+    enum-known-vetted
     enum-told
     cast-selected
     selected-requires
