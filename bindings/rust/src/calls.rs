@@ -2,8 +2,8 @@
 use crate::ffi::Reply;
 use crate::{lent, Answers, Columns, Outcome, Refusal, Summary, MOST_ROWS};
 
-/// From this many rows on, [`Engine::Auto`] takes the engine by parts; below, the direct one takes less time.
-pub const BY_PARTS_FROM: usize = 32;
+/// From this many rows on, [`Engine::Auto`] takes the engine by parts; below, the direct one mostly takes less time.
+pub const BY_PARTS_FROM: usize = 128;
 
 /// How a query finds its answers. Every engine gives the same answers and the same refusals, so this is a choice about
 /// time only.
