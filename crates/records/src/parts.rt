@@ -1,5 +1,8 @@
 // How records hang together: the parts of a compound, and which records are parts.
-use crate::record::record_at;
+use crate::record::kind_at;
+use crate::record::p_at;
+use crate::record::q_at;
+use crate::record::record_of;
 use model::CompoundTerm;
 use model::Record;
 ghost use mathlib.Core.Path.{_≡_};
@@ -30,19 +33,22 @@ pub fn is_part(table: &[u8], n: u8, j: u8) -> bool
     false
 }
 
-// Whether record j is a part of record i.
+// Whether record j is a part of record i. Most records are told by their bytes, without a look at what they are.
 fn has_part(table: &[u8], i: u8, j: u8) -> bool
     ensures { λ r. ⌜ r ≡ anyIn (partsOf (recordAt (now (table .entry)) i)) (eqb j) ⌝ }
 {
+    if (j != p_at(table, i)) & (j != q_at(table, i)) {
+        return false;
+    }
     let s = parts_at(table, i);
     ((1 <= s.count) & (j == s.left)) | ((2 <= s.count) & (j == s.right))
 }
 
-// The parts of record k.
+// The parts of record k. Its numbers have no say in them and are not read.
 pub fn parts_at(table: &[u8], k: u8) -> Parts
     ensures { λ r. ⌜ partList (r .count) (r .left) (r .right) ≡ partsOf (recordAt (now (table .entry)) k) ⌝ }
 {
-    parts_of(record_at(table, k))
+    parts_of(record_of(kind_at(table, k), p_at(table, k), q_at(table, k), 0, 0))
 }
 
 fn parts_of(r: Record) -> Parts
@@ -85,11 +91,11 @@ fn parts_in(c: CompoundTerm) -> Parts
     }
 }
 
-// Whether record k is a term record.
+// Whether record k is a term record, which its kind alone says.
 pub fn is_term_at(table: &[u8], k: u8) -> bool
     ensures { λ r. ⌜ r ≡ isTerm (recordAt (now (table .entry)) k) ⌝ }
 {
-    is_term(record_at(table, k))
+    is_term(record_of(kind_at(table, k), 0, 0, 0, 0))
 }
 
 fn is_term(r: Record) -> bool

@@ -7,7 +7,7 @@ use model::RECORD_BYTES;
 use model::Record;
 use model::Value;
 ghost use mathlib.Core.Path.{_≡_};
-ghost use Prim.Native.Nat.{_+_, _<_};
+ghost use Prim.Native.Nat.{_+_, _*_, _<_};
 ghost use Rattle.model.specs.Bytes.{byteAt, wordAt, signed};
 ghost use Rattle.model.specs.Record.{kindAt, pAt, qAt, sAt, uAt, vAt, recordOf, recordAt};
 ghost use Rattle.records.specs.Fields.{uWord, vWord};
@@ -110,15 +110,27 @@ fn to_signed(word: u32) -> i32
     -1 - (m as i32)
 }
 
-// The four bytes from `at` on, low byte first.
+// The four bytes from `at` on, low byte first. Where all are there, they are read at once.
 fn word_at(bytes: &[u8], at: usize) -> u32
     requires { ⌜ at < 65536 ⌝ }
     ensures { λ r. ⌜ r ≡ wordAt (now (bytes .entry)) at ⌝ }
 {
-    wide(byte_at(bytes, at))
-        + 256 * wide(byte_at(bytes, at + 1))
-        + 65536 * wide(byte_at(bytes, at + 2))
-        + 16777216 * wide(byte_at(bytes, at + 3))
+    if at + 3 < bytes.len() {
+        return word_of(bytes[at], bytes[at + 1], bytes[at + 2], bytes[at + 3]);
+    }
+    word_of(
+        byte_at(bytes, at),
+        byte_at(bytes, at + 1),
+        byte_at(bytes, at + 2),
+        byte_at(bytes, at + 3),
+    )
+}
+
+// Four bytes as a number, low byte first.
+fn word_of(a: u8, b: u8, c: u8, d: u8) -> u32
+    ensures { λ r. ⌜ r ≡ a + 256 * b + 65536 * c + 16777216 * d ⌝ }
+{
+    wide(a) + 256 * wide(b) + 65536 * wide(c) + 16777216 * wide(d)
 }
 
 fn wide(x: u8) -> u32

@@ -1,3 +1,4 @@
 pub mod Ends
 pub mod RunEnd
+pub mod PastEnd
 pub mod Rows

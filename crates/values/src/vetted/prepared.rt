@@ -7,22 +7,33 @@ use records::record::u_at;
 use records::record::v_at;
 use terms::vetted::closure::closure;
 ghost use mathlib.Core.Path.{_≡_};
-ghost use Prim.Native.Nat.{_+_, _*_, _<_, _≤_};
+ghost use Prim.Native.Nat.{ℕ, _+_, _*_, _/_, _<_, _≤_};
 ghost use lib.ListN.{length};
 ghost use Rattle.values.specs.Prepared.{numberAt, Numbers, Vetted, NextTerm, RunEnds, RowsPut, Reached};
 
-// The numbers of all records: u of record k at 2 k, v at 2 k + 1.
+// The numbers of all records: u of record k at 2 k, v at 2 k + 1. Past the table's end they are 0.
 pub fn numbers(table: &[u8]) -> [i32; 256]
     ensures { λ r. ⌜ Numbers (now (table .entry)) r ⌝ }
 {
+    let last = number_count(table.len());
     let mut a = [0i32; 256];
     let mut i = 0usize;
-    while i < 256 {
+    while i < last {
         let x = number_at(table, i);
         a[i] = x;
         i += 1;
     }
     a
+}
+
+// How many numbers are read: those of every record that has a byte, and 256 at most.
+fn number_count(bytes: usize) -> usize
+    ensures { λ r. ⌜ (r ≤ 256) × ((i : ℕ) → r ≤ i → i < 256 → bytes ≤ 12 * (i / 2)) ⌝ }
+{
+    if bytes < 1536 {
+        return (bytes + 11) / 12 * 2;
+    }
+    256
 }
 
 fn number_at(table: &[u8], i: usize) -> i32

@@ -1,14 +1,42 @@
 -- `records::record::word_at` meets its contract. Assumes nothing.
 use borrow.Author.Needs.{needs}
-use Rattle.model.specs.Bytes.{wordAt}
+use Rattle.model.specs.Bytes.{byteAt, wordAt}
 use Rattle.records.proofs.record.word_at.Statement.{statement}
 use Rattle.records.proofs.record.word_at.Tie as tie
 
+add-if1 : tie.Need-add-if1
+add-if1 c = search needs
+
+shared-slice-read-word-of : tie.Need-shared-slice-read-word-of
+shared-slice-read-word-of c = search needs
+
+add-word-of : tie.Need-add-word-of
+add-word-of c = search needs
+
+shared-slice-read-word-of-2 : tie.Need-shared-slice-read-word-of-2
+shared-slice-read-word-of-2 c = search needs
+
+add-word-of-2 : tie.Need-add-word-of-2
+add-word-of-2 c = search needs
+
+shared-slice-read-word-of-3 : tie.Need-shared-slice-read-word-of-3
+shared-slice-read-word-of-3 c = search needs
+
+add-word-of-3 : tie.Need-add-word-of-3
+add-word-of-3 c = search needs
+
+shared-slice-read-word-of-4 : tie.Need-shared-slice-read-word-of-4
+shared-slice-read-word-of-4 c = search needs
+
+word-of-requires : tie.Need-word-of-requires
+word-of-requires c κs = search needs
+
+returns : tie.Need-returns
+unfolding wordAt byteAt
+returns c = search needs
+
 byte-at-requires : tie.Need-byte-at-requires
 byte-at-requires c κs = search needs
-
-wide-requires : tie.Need-wide-requires
-wide-requires c κs = search needs
 
 add-byte-at : tie.Need-add-byte-at
 add-byte-at c = search needs
@@ -16,29 +44,11 @@ add-byte-at c = search needs
 byte-at-requires-2 : tie.Need-byte-at-requires-2
 byte-at-requires-2 c κs = search needs
 
-wide-requires-2 : tie.Need-wide-requires-2
-wide-requires-2 c κs = search needs
-
-mul-result : tie.Need-mul-result
-mul-result c = search needs
-
-add-result : tie.Need-add-result
-add-result c = search needs
-
 add-byte-at-2 : tie.Need-add-byte-at-2
 add-byte-at-2 c = search needs
 
 byte-at-requires-3 : tie.Need-byte-at-requires-3
 byte-at-requires-3 c κs = search needs
-
-wide-requires-3 : tie.Need-wide-requires-3
-wide-requires-3 c κs = search needs
-
-mul-result-2 : tie.Need-mul-result-2
-mul-result-2 c = search needs
-
-add-result-2 : tie.Need-add-result-2
-add-result-2 c = search needs
 
 add-byte-at-3 : tie.Need-add-byte-at-3
 add-byte-at-3 c = search needs
@@ -46,38 +56,33 @@ add-byte-at-3 c = search needs
 byte-at-requires-4 : tie.Need-byte-at-requires-4
 byte-at-requires-4 c κs = search needs
 
-wide-requires-4 : tie.Need-wide-requires-4
-wide-requires-4 c κs = search needs
+word-of-requires-2 : tie.Need-word-of-requires-2
+word-of-requires-2 c κs = search needs
 
-mul-result-3 : tie.Need-mul-result-3
-mul-result-3 c = search needs
-
-add-result-3 : tie.Need-add-result-3
-add-result-3 c = search needs
-
-returns : tie.Need-returns
+returns-2 : tie.Need-returns-2
 unfolding wordAt
-returns c = search needs
+returns-2 c = search needs
 
 pub word-at-spec : {M : Type 1} → statement M
 word-at-spec =
     tie.close
     (tie.spec
+    add-if1
+    shared-slice-read-word-of
+    add-word-of
+    shared-slice-read-word-of-2
+    add-word-of-2
+    shared-slice-read-word-of-3
+    add-word-of-3
+    shared-slice-read-word-of-4
+    word-of-requires
+    returns
     byte-at-requires
-    wide-requires
     add-byte-at
     byte-at-requires-2
-    wide-requires-2
-    mul-result
-    add-result
     add-byte-at-2
     byte-at-requires-3
-    wide-requires-3
-    mul-result-2
-    add-result-2
     add-byte-at-3
     byte-at-requires-4
-    wide-requires-4
-    mul-result-3
-    add-result-3
-    returns)
+    word-of-requires-2
+    returns-2)
