@@ -1,2 +1,3 @@
 pub mod Hits
 pub mod Meets
+pub mod Rivals

@@ -9,7 +9,7 @@ use lib.Dec.{eqb}
 use lib.ListN.{length, getD, set}
 use lib.Seq.{getD-set-same, getD-set-other}
 use mir.Val.{boolByte}
-use borrow.Author.Tests.{eq-eqb, eqb-true, eqb-false}
+use borrow.Author.Tests.{eq-eqb, ne-eqb, eqb-true, eqb-false}
 use Rattle.model.specs.Search.{anyBelow}
 use Rattle.model.specs.Query.{kept}
 use Rattle.laws.specs.Bools.{and-l, and-r, on-or-off}
@@ -23,6 +23,7 @@ use Rattle.elimination.specs.Firsts.{Firsts, firsts-less}
 use Rattle.elimination.specs.Rounds.{rounds-more, turn-more, turn-met}
 use Rattle.lanes.specs.Wrote.{Wrote}
 use Rattle.live.specs.Live.{free, hit, goneLane, nameLane}
+use Rattle.rounds.specs.Rivals.{rival}
 use Rattle.live.specs.Alive.{Above}
 use Rattle.rounds.proofs.Hits.{Hits, Dark, in-block}
 
@@ -31,9 +32,15 @@ use Rattle.rounds.proofs.Hits.{Hits, Dark, in-block}
 one-zero : _≡_ {A = ℕ} 1 0 → ⊥
 one-zero e = omega arith
 
-free-on : (gone : List ℕ) (lo j : ℕ) → getD gone (lo + j) 0 ≡ 0 → free gone lo j ≡ true
-unfolding free
-free-on gone lo j e = eq-eqb _ 0 e
+-- A row that is not gone and comes after row i is one that row i meets,
+rival-on : (gone : List ℕ) (lo i j : ℕ) → getD gone (lo + j) 0 ≡ 0 → i < lo + j → rival gone lo i j ≡ true
+unfolding rival free
+rival-on gone lo i j e l = rw (eq-eqb (getD gone (lo + j) 0) 0 e, ne-eqb (lo + j) i (λ q. omega arith))
+
+-- and one that it meets is not gone.
+rival-free : (gone : List ℕ) (lo i j : ℕ) → rival gone lo i j ≡ true → getD gone (lo + j) 0 ≡ 0
+unfolding rival free
+rival-free gone lo i j e = eqb-true (getD gone (lo + j) 0) 0 (and-l _ _ e)
 
 -- What the byte says of which it was made: 0, and not 0.
 byte-left : (a h : Bool) → boolByte (not a || h) ≡ 0 → (a ≡ true) × (h ≡ false)
@@ -65,7 +72,7 @@ module _ (gone : List ℕ) (lo : ℕ) (live codes : List ℕ) (top j : ℕ) wher
 
 module _ (beats : Rel ℕ) (n i lo : ℕ) (gone : List ℕ) (row : i < n) (turn : Turn beats n i lo gone) where
   -- It has no row that row i is to meet.
-  pub meets-none : Dark beats n i lo (free gone lo) → Met beats n i (lo + 64) gone false
+  pub meets-none : Dark beats n i lo (rival gone lo i) → Met beats n i (lo + 64) gone false
   meets-none d =
       turn-met beats n i (lo + 64) gone
       (turn-more beats n i gone gone row (λ j l z. z) (λ j l z. inl z) lo (lo + 64) turn here)
@@ -73,11 +80,11 @@ module _ (beats : Rel ℕ) (n i lo : ℕ) (gone : List ℕ) (row : i < n) (turn 
       here : (x : ℕ) → i < x → lo ≤ x → x < lo + 64 → x < n → getD gone x 0 ≡ 0 → Apart beats i x
       here x p q r h z =
           in-block x lo (λ u. absurd (omega arith))
-          (λ j u v. let f : getD gone (lo + j) 0 ≡ 0 = rw v at z in rw v (d .apart j u (omega arith) (free-on gone lo j f)))
+          (λ j u v. let f : getD gone (lo + j) 0 ≡ 0 = rw v at z in rw v (d .apart j u (omega arith) (rival-on gone lo i j f (omega arith))))
           (λ u. absurd (omega arith))
 
   -- Row i meets those that are not gone, and those that it beats go.
-  module _ (live codes new : List ℕ) (top : ℕ) (hits : Hits beats n i lo (free gone lo) live codes top)
+  module _ (live codes new : List ℕ) (top : ℕ) (hits : Hits beats n i lo (rival gone lo i) live codes top)
       (wrote : Wrote 0 (goneLane gone lo live codes top) lo 64 gone new) where
     stay : (x : ℕ) → x < n → getD new x 0 ≡ 0 → getD gone x 0 ≡ 0
     stay x l z =
@@ -94,23 +101,24 @@ module _ (beats : Rel ℕ) (n i lo : ℕ) (gone : List ℕ) (row : i < n) (turn 
         (λ j u v. let f : getD new (lo + j) 0 ≡ 0 → ⊥ = rw v at z in
         rw v (⊎-elim
         (λ y. inl y)
-        (λ y. inr (and-r (free gone lo j) _ (sym (hits .one j u (omega arith)) ∙ y)))
+        (λ y. inr (and-r (rival gone lo i j) _ (sym (hits .one j u (omega arith)) ∙ y)))
         (lost gone lo live codes top j (λ y. f (wrote .made j u ∙ y)))))
         (λ u. inl (λ y. z (wrote .above x u ∙ y)))
 
     beaten : (j : ℕ) → j < 64 → hit live codes top 2 j ≡ true → kept n beats i ≡ false
     beaten j l h =
         ⊎-elim
-        (λ k. dropped-i n beats i (lo + j) k (and-r (free gone lo j) _ (sym (hits .two j l k) ∙ h)))
+        (λ k. dropped-i n beats i (lo + j) k (and-r (rival gone lo i j) _ (sym (hits .two j l k) ∙ h)))
         (λ k. absurd (false≢true (sym (hits .off 2 j l k) ∙ h)))
         (below-or-not (lo + j) n)
 
-    apart : (j : ℕ) → j < 64 → lo + j < n → hit live codes top 2 j ≡ false → getD new (lo + j) 0 ≡ 0 → Apart beats i (lo + j)
-    apart j l h e z =
+    apart : (j : ℕ) → j < 64 → lo + j < n → i < lo + j → hit live codes top 2 j ≡ false → getD new (lo + j) 0 ≡ 0
+        → Apart beats i (lo + j)
+    apart j l h later e z =
         let s = left gone lo live codes top j (sym (wrote .made j l) ∙ z) in
-        let f = free-on gone lo j (s .0) in (
-          and-off (free gone lo j) _ (sym (hits .one j l h) ∙ s .1) f,
-          and-off (free gone lo j) _ (sym (hits .two j l h) ∙ e) f,
+        let f = rival-on gone lo i j (s .0) later in (
+          and-off (rival gone lo i j) _ (sym (hits .one j l h) ∙ s .1) f,
+          and-off (rival gone lo i j) _ (sym (hits .two j l h) ∙ e) f,
         )
 
     pub meets-some : {lost : Bool} → lost ≡ anyBelow 64 (hit live codes top 2) → Met beats n i (lo + 64) new lost
@@ -121,7 +129,7 @@ module _ (beats : Rel ℕ) (n i lo : ℕ) (gone : List ℕ) (row : i < n) (turn 
           no = λ y x p q r z. in-block x lo
               (λ u. turn .met x p u r (stay x r z))
               (λ j u v. let f : getD new (lo + j) 0 ≡ 0 = rw v at z in
-              rw v (apart j u (omega arith) (none-e 64 (hit live codes top 2) (sym e ∙ y) j u) f))
+              rw v (apart j u (omega arith) (omega arith) (none-e 64 (hit live codes top 2) (sym e ∙ y) j u) f))
               (λ u. absurd (omega arith));
         }
 
@@ -140,11 +148,10 @@ module _ (beats : Rel ℕ) (n i lo : ℕ) (gone : List ℕ) (row : i < n) (turn 
       old-fine j l h = (before .beaten j l h, λ a o z. before .lowest j l h a o (stay a (omega (arith, o, h, l)) z))
 
       new-fine : (j : ℕ) → j < 64 → lo + j < n → hit live codes top 1 j ≡ true → Fine (lo + j) i
-      unfolding free
       new-fine j l h e less =
           let both = sym (hits .one j l h) ∙ e in
-          let here = eqb-true (getD gone (lo + j) 0) 0 (and-l (free gone lo j) (beats i (lo + j)) both) in (
-            and-r (free gone lo j) (beats i (lo + j)) both,
+          let here = rival-free gone lo i j (and-l (rival gone lo i j) (beats i (lo + j)) both) in (
+            and-r (rival gone lo i j) (beats i (lo + j)) both,
             λ a o z. turn .rest .apart a (lo + j) o (omega (arith, o, less)) h (stay a (omega (arith, o, row)) z) here .0,
           )
 

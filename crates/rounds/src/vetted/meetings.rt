@@ -14,8 +14,9 @@ ghost use Rattle.model.specs.Query.{beatsIn};
 ghost use Rattle.elimination.specs.Elimination.{Rounds, Turn, Met, Settled};
 ghost use Rattle.elimination.specs.Firsts.{Firsts};
 ghost use Rattle.cells.specs.Keys.{Keyed};
-ghost use Rattle.live.specs.Alive.{Above};
+ghost use Rattle.live.specs.Alive.{Cells, Alive, Above};
 ghost use Rattle.blocks.specs.Blocks.{Ready};
+ghost use Rattle.rounds.specs.Rivals.{rival, LeftOut};
 
 // All rounds, with no row gone at first: a row is not gone exactly where it is kept.
 pub fn eliminate(
@@ -229,7 +230,7 @@ fn meet_block(
         × Firsts (beatsIn (termAt (now (table .entry)) term) columns (now (rows .entry)) group) n (now (gone .exit)) (now (first .exit)) ⌝ }
 {
     let mut live = [0u8; 64];
-    free_alive(group, columns, rows, n, values, keys, i, b, gone, &mut live);
+    rivals_alive(group, columns, rows, n, values, keys, i, b, gone, &mut live);
     if any_lit(&live) {
         block_codes(
             table,
@@ -257,4 +258,35 @@ fn meet_block(
         return any_hit(&live, codes, top, 2);
     }
     false
+}
+
+// The rows of block b that row i meets: those that are not gone, in its group, without itself.
+fn rivals_alive(
+    group: u8,
+    columns: usize,
+    rows: &[i32],
+    n: usize,
+    values: &[i32],
+    keys: &[u8; 1024],
+    i: usize,
+    b: usize,
+    gone: &[u8],
+    live: &mut [u8],
+)
+    requires { ⌜ Cells columns (now rows) n (now values) × (i < n) × (b * 64 < n) × (64 ≤ length (now live)) × (length (now gone) ≡ 1024)
+        × Above n (now gone) × Keyed group columns (now rows) n (now keys) ⌝ }
+    ensures { λ _. ⌜ Alive group columns (now (rows .entry)) n i b (rival (now (gone .entry)) (b * 64) i) (now (live .exit)) ⌝ }
+{
+    free_alive(group, columns, rows, n, values, keys, i, b, gone, live);
+    leave_out(i, b, live);
+}
+
+// Puts out row i's own lane, if it is in block b: where groups are many, it is often the only one.
+fn leave_out(i: usize, b: usize, live: &mut [u8])
+    requires { ⌜ 64 ≤ length (now live) ⌝ }
+    ensures { λ _. ⌜ LeftOut (b * 64) i (now (live .entry)) (now (live .exit)) ⌝ }
+{
+    if i / 64 == b {
+        live[i % 64] = 0;
+    }
 }

@@ -8,11 +8,11 @@ use Rattle.rounds.proofs.Meets.{meets-some, meets-none, firsts-some, ab
 use Rattle.rounds.proofs.vetted.meetings.meet_block.Statement.{statement}
 use Rattle.rounds.proofs.vetted.meetings.meet_block.Tie as tie
 
-slice-aggregate-free-alive : tie.Need-slice-aggregate-free-alive
-slice-aggregate-free-alive c = search needs
+slice-aggregate-rivals-alive : tie.Need-slice-aggregate-rivals-alive
+slice-aggregate-rivals-alive c = search needs
 
-free-alive-requires : tie.Need-free-alive-requires
-free-alive-requires c κs =
+rivals-alive-requires : tie.Need-rivals-alive-requires
+rivals-alive-requires c κs =
     let p = c .before .before .before .before .before .before .pre in
     (cells (p .0), p .1, p .2, search needs, p .3, p .5, p .7)
 
@@ -90,7 +90,7 @@ returns c =
     let k = x .before .before .before .before .before .before in
     let f = k .before .before .before .before .before .before .before in
     let p = f .before .before .before .before .before .before .before .pre in
-    let h = ready-hits (p .0) (f .free-alive .ensures) (k .block-codes .ensures) in
+    let h = ready-hits (p .0) (f .rivals-alive .ensures) (k .block-codes .ensures) in
     let g = x .gone-lanes .ensures in (
       meets-some _ _ _ _ _ (p .1) (p .6) _ _ _ _ h g (c .any-hit .ensures),
       above-some _ _ _ _ _ (p .1) (p .6) _ _ _ _ h g (p .5),
@@ -105,15 +105,15 @@ returns-2 c =
     let y = c .before in
     let f = y .before .before .before in
     let p = f .before .before .before .before .before .before .before .pre in
-    let d = ready-dark (p .0) (f .free-alive .ensures) (sym (y .any-lit .ensures) ∙ c .if1 .left) in
+    let d = ready-dark (p .0) (f .rivals-alive .ensures) (sym (y .any-lit .ensures) ∙ c .if1 .left) in
     (meets-none _ _ _ _ _ (p .1) (p .6) d, p .5, p .9)
 
 pub meet-block-spec : {M : Type 1} → statement M
 meet-block-spec =
     tie.close
     (tie.spec
-    slice-aggregate-free-alive
-    free-alive-requires
+    slice-aggregate-rivals-alive
+    rivals-alive-requires
     slice-aggregate-any-lit
     any-lit-requires
     slice-aggregate-block-codes

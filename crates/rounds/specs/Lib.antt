@@ -1,0 +1,2 @@
+-- Which rows a row meets in its round.
+pub mod Rivals
