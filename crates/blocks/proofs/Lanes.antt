@@ -17,8 +17,8 @@ use Rattle.laws.specs.Search.{lt-suc-cases}
 use Rattle.laws.specs.Runs.{valuesBetween}
 use Rattle.laws.specs.ValueCodes.{testsCode, valueCode}
 use Rattle.classes.specs.Leads.{leads-is}
-use Rattle.ranks.specs.Rank.{rankOf, RankAt, PlaceOf}
-use Rattle.ranks.specs.ByRank.{isExplicit, rank-code}
+use Rattle.rank.specs.Rank.{rankOf, RankAt, PlaceOf}
+use Rattle.rank.specs.ByRank.{isExplicit, rank-code}
 use Rattle.lanes.specs.Wrote.{Wrote}
 use Rattle.lanes.specs.Lanes.{orderCode, orderLane, rankedLane, placeCode, placeLane}
 use Rattle.blocks.specs.Base.{BaseAsked, BaseCoded, placesCode, Against}

@@ -14,7 +14,7 @@ use Rattle.model.specs.Query.{rowAt}
 use Rattle.laws.specs.Codes.{code, pair-code, dual-code}
 use Rattle.laws.specs.AcceptedKinds.{accepted-joined, accepted-dual}
 use Rattle.laws.specs.AcceptedTerms.{accepted-sound}
-use Rattle.ranks.specs.Beneath.{OfParts, parts-low}
+use Rattle.beneath.specs.Beneath.{OfParts, parts-low}
 use Rattle.lanes.specs.Wrote.{Wrote}
 use Rattle.lanes.specs.Lanes.{turnedLane}
 use Rattle.blocks.specs.Blocks.{Ready, AtRecord, Coded, joinedLane, compoundLane}

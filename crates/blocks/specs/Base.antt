@@ -13,7 +13,7 @@ use Rattle.laws.specs.ValueCodes.{testsCode, valueCode}
 use Rattle.terms.specs.Run.{Values}
 use Rattle.values.specs.Prepared.{ReachedFrom}
 use Rattle.classes.specs.Places.{leadsTo}
-use Rattle.ranks.specs.Rank.{RankAt}
+use Rattle.rank.specs.Rank.{RankAt}
 
 -- The row has value v, and x is its rank.
 pub record BaseAsked (table : List ℕ) (reach : List (List Bool)) (k e : ℕ) (t : BaseTerm) (x v : ℤ) : Type 0 where

@@ -17,7 +17,7 @@ use Rattle.values.specs.Prepared.{Numbers, RunEnds, Reached}
 use Rattle.exits.specs.Exits.{Exits}
 use Rattle.exits.specs.Known.{Known}
 use Rattle.cells.specs.Values.{Room, Valued}
-use Rattle.ranks.specs.Beneath.{Marked}
+use Rattle.beneath.specs.Beneath.{Marked}
 use Rattle.ranks.specs.Ranked.{Ranked}
 use Rattle.known.specs.Lanes.{Told, Ended}
 use Rattle.lanes.specs.Lanes.{turnedLane}

@@ -15,7 +15,7 @@ use values::vetted::lookup::decoded;
 ghost use Prim.Native.Nat.{_+_, _*_, _<_, _≤_};
 ghost use lib.ListN.{length};
 ghost use Rattle.lanes.specs.Wrote.{Wrote};
-ghost use Rattle.ranks.specs.Beneath.{OfParts};
+ghost use Rattle.beneath.specs.Beneath.{OfParts};
 ghost use Rattle.blocks.specs.Blocks.{Ready, AtRecord, Coded, RecordTold, AskedCoded, joinedLane, compoundLane};
 
 mod base;

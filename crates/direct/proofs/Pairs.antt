@@ -11,7 +11,7 @@ use Rattle.laws.specs.Search.{count-bound}
 use Rattle.laws.specs.Order.{Rel}
 use Rattle.values.specs.Prepared.{RunEnds, Reached}
 use Rattle.cells.specs.Values.{Room}
-use Rattle.ranks.specs.Beneath.{Marked}
+use Rattle.beneath.specs.Beneath.{Marked}
 use Rattle.ranks.specs.Ranked.{Ranked}
 use Rattle.exits.specs.Exits.{Exits}
 use Rattle.ops.specs.Ops.{Ops}

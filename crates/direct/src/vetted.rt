@@ -1,11 +1,11 @@
 // The direct engine: rows are compared pair by pair, by ranks that are found once per query; a row that is gone is not
 // compared again, and a dropped row's witness comes from the list of kept rows.
+use beneath::vetted::beneath;
 use cells::vetted::keys::fill_keys;
 use exits::vetted::exits;
 use ops::vetted::ops;
 use pairwise::vetted::meetings::eliminate;
-use ranks::vetted::beneath::beneath;
-use ranks::vetted::fill::fill_ranks;
+use ranks::vetted::fill_ranks;
 use values::vetted::prepared::closures;
 use values::vetted::prepared::numbers;
 use values::vetted::prepared::run_ends;

@@ -18,9 +18,10 @@ use Rattle.cells.specs.Keys.{Keyed}
 use Rattle.cells.specs.Values.{Valued}
 use Rattle.cells.specs.Places.{row-length}
 use Rattle.lanes.specs.Wrote.{Wrote}
-use Rattle.live.specs.Live.{lit, free, pending, freeLane, pendingLane, equalLane, keyLane}
+use Rattle.lit_lanes.specs.Lit.{lit, free, pending, freeLane, pendingLane}
+use Rattle.lit_lanes.proofs.Stored.{any-step, lit-byte}
+use Rattle.live.specs.Live.{equalLane, keyLane}
 use Rattle.live.specs.Alive.{Columned, Grouped, Alive, Above, Beyond}
-use Rattle.live.proofs.Stored.{any-step, lit-byte}
 
 -- ---- lanes as they were written
 

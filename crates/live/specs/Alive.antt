@@ -12,7 +12,7 @@ use Rattle.model.specs.Better.{cell, equalIn}
 use Rattle.model.specs.Query.{rowAt}
 use Rattle.cells.specs.Group.{differs}
 use Rattle.cells.specs.Values.{Room, Valued}
-use Rattle.live.specs.Live.{lit}
+use Rattle.lit_lanes.specs.Lit.{lit}
 
 -- The run has n rows, and their cells stand in `values`.
 pub record Cells (columns : ℕ) (rows : List ℤ) (n : ℕ) (values : List ℤ) : Type 0 where

@@ -1,3 +1,3 @@
--- Which rows of a block count for a row, and what the loops over its lanes write.
+-- Which rows of a block count for a row.
 pub mod Live
 pub mod Alive

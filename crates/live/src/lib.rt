@@ -1,2 +1,2 @@
-// Which of the 64 rows of a block still count for a row, and what becomes of them.
+// Which of the 64 rows of a block still count for a row.
 pub mod vetted;

@@ -14,7 +14,8 @@ use Rattle.laws.specs.Bools.{on-or-off}
 use Rattle.laws.specs.Order.{Rel}
 use Rattle.elimination.specs.Elimination.{Settled}
 use Rattle.lanes.specs.Wrote.{Wrote}
-use Rattle.live.specs.Live.{pending, hit, nameLane}
+use Rattle.lit_lanes.specs.Lit.{pending, hit}
+use Rattle.lane_marks.specs.Marks.{nameLane}
 use Rattle.live.specs.Alive.{Beyond}
 use Rattle.naming.specs.Naming.{named, Right, Named, Naming}
 use Rattle.rounds.proofs.Hits.{Hits, Dark, in-block}

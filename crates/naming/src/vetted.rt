@@ -2,9 +2,9 @@
 // name, so that each has the lowest. No public calls: each asks what was prepared before. `gone` has 0 for a row that is not
 // gone; `by` has the row that is named for a row, or 1024 for none yet.
 use blocks::vetted::block_codes;
-use live::vetted::group::waiting;
-use live::vetted::lit::any_lit;
-use live::vetted::marks::name_lanes;
+use lane_marks::vetted::name_lanes;
+use lit_lanes::vetted::any_lit;
+use live::vetted::waiting;
 ghost use mathlib.Core.Path.{_≡_};
 ghost use Prim.Native.Nat.{_+_, _*_, _≤_, _<_};
 ghost use lib.ListN.{length, getD};

@@ -32,8 +32,8 @@ use Rattle.laws.specs.AcceptedTerms.{accepted-sound}
 use Rattle.values.specs.Prepared.{Run}
 use Rattle.cells.specs.Places.{row-length, place-in}
 use Rattle.base_terms.proofs.Coded.{same-code, other-code}
-use Rattle.ranks.specs.Rank.{RankAt}
-use Rattle.ranks.specs.ByRank.{isExplicit, rank-is, by-rank}
+use Rattle.rank.specs.Rank.{RankAt}
+use Rattle.rank.specs.ByRank.{isExplicit, rank-is, by-rank}
 use Rattle.ops.specs.Ops.{opOf, leftOf, rightOf, baseOp, pairOp, OpAt}
 use Rattle.pair_codes.specs.Pairs.{Comparable, RowOf, RecordOf, CodesBelow, opCode}
 use Rattle.pair_codes.specs.Ranks.{TwoRanked}

@@ -15,7 +15,7 @@ use Rattle.laws.specs.Codes.{code, priorCode, turnedCode}
 use Rattle.laws.specs.Taken.{TakenTerm}
 use Rattle.values.specs.Prepared.{RunEnds, Reached}
 use Rattle.cells.specs.Values.{Room}
-use Rattle.ranks.specs.Beneath.{Marked}
+use Rattle.beneath.specs.Beneath.{Marked}
 use Rattle.ranks.specs.Ranked.{Ranked}
 use Rattle.exits.specs.Exits.{Exits}
 use Rattle.ops.specs.Ops.{Ops}

@@ -10,7 +10,7 @@ use Rattle.laws.specs.Sound.{soundBase}
 use Rattle.laws.specs.Runs.{valuesBetween}
 use Rattle.terms.specs.Run.{Values}
 use Rattle.values.specs.Prepared.{ReachedFrom}
-use Rattle.ranks.specs.Rank.{RankAt}
+use Rattle.rank.specs.Rank.{RankAt}
 
 -- Term b of record k with its values, the records from k + 1 to before e, and two values with their ranks.
 pub record TwoRanked (table : List ℕ) (reach : List (List Bool)) (k e : ℕ) (b : BaseTerm) (v w x y : ℤ) : Type 0 where

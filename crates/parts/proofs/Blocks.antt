@@ -16,7 +16,7 @@ use Rattle.laws.specs.Taken.{TakenTerm, taken-sound}
 use Rattle.values.specs.Prepared.{Numbers, RunEnds, Reached}
 use Rattle.exits.specs.Exits.{Exits}
 use Rattle.cells.specs.Values.{Room, Valued}
-use Rattle.ranks.specs.Beneath.{Marked}
+use Rattle.beneath.specs.Beneath.{Marked}
 use Rattle.ranks.specs.Ranked.{Ranked}
 use Rattle.blocks.specs.Blocks.{Ready}
 use Rattle.selection.specs.Selected.{AskedRows, StrideFor}

@@ -1,6 +1,7 @@
 // The engine by parts: a wish's answers come from those of its parts. Ranks of every base record beneath the asked term once
 // per query; then for a row and a block of 64 rows one code per row and record, compounds from their parts' codes; rows that
 // are beaten are gone; then the kept rows name the rows that they beat.
+use beneath::vetted::beneath;
 use cells::vetted::keys::fill_keys;
 use cells::vetted::values::fill_values;
 use entries::vetted::first_names;
@@ -8,8 +9,7 @@ use entries::vetted::none_gone;
 use entries::vetted::write_answers;
 use exits::vetted::exits;
 use naming::vetted::name;
-use ranks::vetted::beneath::beneath;
-use ranks::vetted::fill::fill_ranks;
+use ranks::vetted::fill_ranks;
 use rounds::vetted::meetings::eliminate;
 use values::vetted::prepared::closures;
 use values::vetted::prepared::numbers;

@@ -17,7 +17,7 @@ use Rattle.laws.specs.AcceptedTable.{accepted-table}
 use Rattle.laws.specs.AcceptedKinds.{accepted-base}
 use Rattle.cells.specs.Places.{place-apart}
 use Rattle.cells.specs.Stretch.{Stretch}
-use Rattle.ranks.specs.Rank.{RankAt}
+use Rattle.rank.specs.Rank.{RankAt}
 use Rattle.ranks.specs.Ranked.{Ranked, RecordRankable, ColumnRankable}
 
 -- What a record says of a rank, and nothing where it is no base record.

@@ -1,3 +1,1 @@
-pub mod Beneath
-pub mod Ranks
 pub mod Filled

@@ -27,7 +27,7 @@ use Rattle.laws.specs.Taken.{taken-sound}
 use Rattle.elimination.specs.Cases.{below-or-not}
 use Rattle.elimination.specs.Elimination.{Apart}
 use Rattle.elimination.specs.Beats.{beats-one, beats-two}
-use Rattle.live.specs.Live.{lit, hit}
+use Rattle.lit_lanes.specs.Lit.{lit, hit}
 use Rattle.live.specs.Alive.{Cells, Alive}
 use Rattle.blocks.specs.Blocks.{Ready, AskedCoded}
 

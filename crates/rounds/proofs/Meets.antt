@@ -22,7 +22,8 @@ use Rattle.elimination.specs.Elimination.{Apart, Turn, Met}
 use Rattle.elimination.specs.Firsts.{Firsts, firsts-less}
 use Rattle.elimination.specs.Rounds.{rounds-more, turn-more, turn-met}
 use Rattle.lanes.specs.Wrote.{Wrote}
-use Rattle.live.specs.Live.{free, hit, goneLane, nameLane}
+use Rattle.lit_lanes.specs.Lit.{free, hit}
+use Rattle.lane_marks.specs.Marks.{goneLane, nameLane}
 use Rattle.rounds.specs.Rivals.{rival}
 use Rattle.live.specs.Alive.{Above}
 use Rattle.rounds.proofs.Hits.{Hits, Dark, in-block}

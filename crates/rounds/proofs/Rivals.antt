@@ -13,7 +13,7 @@ use borrow.Author.Tests.{eqb-true, eqb-false}
 use Rattle.model.specs.Better.{equalIn}
 use Rattle.model.specs.Query.{rowAt}
 use Rattle.laws.specs.Bools.{on-or-off}
-use Rattle.live.specs.Live.{free, lit}
+use Rattle.lit_lanes.specs.Lit.{free, lit}
 use Rattle.live.specs.Alive.{Alive}
 use Rattle.rounds.specs.Rivals.{rival, LeftOut}
 

@@ -4,7 +4,7 @@ use mathlib.Core.Bool.{Bool, false, not, _&&_}
 use mathlib.Core.List.{List}
 use Prim.Native.Nat.{ℕ, _+_, _*_, _<_}
 use lib.Dec.{eqb}
-use Rattle.live.specs.Live.{free, lit}
+use Rattle.lit_lanes.specs.Lit.{free, lit}
 
 -- The row of lane j is not gone, and is not row i.
 unfoldable pub rival : List ℕ → ℕ → ℕ → ℕ → Bool

@@ -1,11 +1,11 @@
 // Which rows are kept: every row that is not gone has its round, in which it meets the later rows block by block. `first` has the
 // row in whose round a row was dropped.
 use blocks::vetted::block_codes;
-use live::vetted::group::free_alive;
-use live::vetted::lit::any_hit;
-use live::vetted::lit::any_lit;
-use live::vetted::marks::gone_lanes;
-use live::vetted::marks::name_hits;
+use lane_marks::vetted::gone_lanes;
+use lane_marks::vetted::name_hits;
+use lit_lanes::vetted::any_hit;
+use lit_lanes::vetted::any_lit;
+use live::vetted::free_alive;
 ghost use mathlib.Core.Path.{_≡_};
 ghost use Prim.Native.Nat.{_+_, _*_, _≤_, _<_};
 ghost use lib.ListN.{length};

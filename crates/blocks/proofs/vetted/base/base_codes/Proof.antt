@@ -4,7 +4,7 @@ use mir.Facts.{toZ-ofZ}
 use denote.Ref.{now}
 use borrow.Author.Needs.{needs}
 use Rattle.laws.specs.Runs.{valuesBetween}
-use Rattle.ranks.specs.ByRank.{isExplicit, lowest-same, highest-same}
+use Rattle.rank.specs.ByRank.{isExplicit, lowest-same, highest-same}
 use Rattle.blocks.proofs.Lanes.{ranked-coded, order-coded}
 use Rattle.blocks.proofs.vetted.base.base_codes.Statement.{statement}
 use Rattle.blocks.proofs.vetted.base.base_codes.Tie as tie

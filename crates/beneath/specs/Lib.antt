@@ -1,0 +1,2 @@
+-- The records beneath a term.
+pub mod Beneath

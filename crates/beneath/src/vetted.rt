@@ -1,0 +1,88 @@
+// Which records a comparison goes through: those that tell of the asked term, their parts, and the parts of these. No public
+// calls: each asks what the calls of Query have shown before.
+use model::CompoundTerm;
+use model::Record;
+use values::vetted::lookup::decoded;
+ghost use mathlib.Core.Path.{_≡_};
+ghost use mathlib.Core.Bool.{false, cond};
+ghost use Prim.Native.Nat.{_<_};
+ghost use lib.ListN.{getD};
+ghost use Rattle.model.specs.Record.{recordAt};
+ghost use Rattle.values.specs.Prepared.{Numbers};
+ghost use Rattle.beneath.specs.Beneath.{Telling, OfParts, OfRecord, PartsLow, Marked, partsMarked, recordMarked};
+
+// Marks the records that tell of the asked term by their masks, and all beneath them, downward from the term.
+pub fn beneath(table: &[u8], numbers: &[i32; 256], exits: &[u8; 128], term: u8) -> [bool; 128]
+    requires { ⌜ (term < 128) × Numbers (now table) (now numbers) × PartsLow (now table) term ⌝ }
+    ensures { λ r. ⌜ Marked (now (table .entry)) term (now (exits .entry)) r ⌝ }
+{
+    let first = telling(exits);
+    let mut marks = first;
+    let mut k = term + 1;
+    while k > 0 {
+        k -= 1;
+        let next = with_parts(table, numbers, k, marks);
+        marks = next;
+    }
+    marks
+}
+
+// Marks the records whose mask is not 0.
+fn telling(exits: &[u8; 128]) -> [bool; 128]
+    ensures { λ r. ⌜ Telling (now (exits .entry)) 128 r ⌝ }
+{
+    let mut marks = [false; 128];
+    let mut i = 0usize;
+    while i < 128 {
+        marks[i] = exits[i] != 0;
+        i += 1;
+    }
+    marks
+}
+
+// Marks the parts of record k too, if it is marked.
+fn with_parts(table: &[u8], numbers: &[i32; 256], k: u8, marks: [bool; 128]) -> [bool; 128]
+    requires { ⌜ (k < 128) × Numbers (now table) (now numbers) × PartsLow (now table) k ⌝ }
+    ensures { λ r. ⌜ r ≡ cond (getD marks k false) (recordMarked (recordAt (now (table .entry)) k) marks) marks ⌝ }
+{
+    let at = k as usize;
+    if marks[at] {
+        return of_record(decoded(table, numbers, k), marks);
+    }
+    marks
+}
+
+// Marks the parts of a record.
+fn of_record(r: Record, marks: [bool; 128]) -> [bool; 128]
+    requires { ⌜ OfRecord (λ p. p < 128) r ⌝ }
+    ensures { λ m. ⌜ m ≡ recordMarked r marks ⌝ }
+{
+    match r {
+        Record::Value(_) => marks,
+        Record::Base(_, _) => marks,
+        Record::Compound(c) => of_compound(c, marks),
+        Record::Unknown => marks,
+    }
+}
+
+// Marks the parts of a compound.
+fn of_compound(c: CompoundTerm, marks: [bool; 128]) -> [bool; 128]
+    requires { ⌜ OfParts (λ p. p < 128) c ⌝ }
+    ensures { λ m. ⌜ m ≡ partsMarked c marks ⌝ }
+{
+    let mut next = marks;
+    match c {
+        CompoundTerm::Joined(_, p, q) => {
+            let i = p as usize;
+            let j = q as usize;
+            next[i] = true;
+            next[j] = true;
+            next
+        }
+        CompoundTerm::Dual(p) => {
+            let i = p as usize;
+            next[i] = true;
+            next
+        }
+    }
+}

@@ -1,0 +1,2 @@
+-- What is marked of the rows of a block.
+pub mod Marks

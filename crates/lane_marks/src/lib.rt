@@ -1,0 +1,2 @@
+// What becomes of the rows of a block that a row beats.
+pub mod vetted;

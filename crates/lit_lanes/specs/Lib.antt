@@ -1,0 +1,2 @@
+-- Which lanes of a block are lit.
+pub mod Lit

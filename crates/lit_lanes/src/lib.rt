@@ -1,0 +1,2 @@
+// Which of the 64 lanes of a block are lit.
+pub mod vetted;

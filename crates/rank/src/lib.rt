@@ -1,0 +1,2 @@
+// The rank of one value under a base term.
+pub mod vetted;
