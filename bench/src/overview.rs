@@ -1,10 +1,12 @@
 //! Table 1: every load at three sizes by the three, the smallest queries, and cold buffers.
 use crate::aims;
-use crate::clock::Pace;
-use crate::engines::{agreed, timed, timed_cold};
+use crate::clock::{self, Pace};
+use crate::engines::{agreed, check, timed, timed_cold};
 use crate::loads::{self, Load};
 use crate::markdown::{figure, table, whole};
 use crate::rows::{MOST_ROWS, V};
+use crate::table::RECORD;
+use std::hint::black_box;
 
 pub const SIZES: [usize; 3] = [MOST_ROWS, 128, 16];
 
@@ -68,6 +70,16 @@ impl Line {
     }
 }
 
+/// The microseconds that the check of a load's table takes.
+fn check_cells(pace: Pace, load: &Load) -> Vec<String> {
+    let mut call = || {
+        black_box(check(black_box(&load.table)));
+    };
+    let times = clock::medians(pace, &mut [&mut call]);
+    let records = load.table.len() / RECORD;
+    vec![load.name.clone(), whole(records), figure(times[0])]
+}
+
 fn put(lines: &[Line]) {
     let cells: Vec<_> = lines.iter().map(Line::cells).collect();
     table(1, &HEAD, &cells);
@@ -85,6 +97,9 @@ pub fn print(pace: Pace) -> Result<(), String> {
         put(&lines);
         all.extend(lines);
     }
+    println!("### The check alone, which each call of the library begins with\n");
+    let cells: Vec<_> = loads.iter().map(|load| check_cells(pace, load)).collect();
+    table(1, &["load", "records", "check"], &cells);
     println!("### One row, and the seven rows of V\n");
     let small = loads::t1_over_v();
     put(&[

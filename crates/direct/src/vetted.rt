@@ -20,7 +20,8 @@ ghost use Rattle.cells.specs.Values.{Room};
 ghost use Rattle.pair_codes.specs.Pairs.{Comparable};
 ghost use Rattle.selection.specs.Selected.{AskedRows, StrideFor, Selected};
 
-// Writes the entries. Returns how many rows are kept.
+// Writes the entries. Returns how many rows are kept. A block of 64 rows takes 64 ranks for each record up to the term. Few rows
+// and few records need little room: clearing it all costs more than they do.
 pub fn selected(
     table: &[u8],
     columns: usize,
@@ -34,31 +35,97 @@ pub fn selected(
         (rowCount columns (now (rows .entry))) (now (answers .entry)) (now (answers .exit)) r ⌝ }
 {
     let n = rows.len() / columns;
-    ranked(table, columns, rows, n, term, group, answers)
+    let stride = (term as usize) * 64 + 64;
+    if n <= 64 {
+        return in_one_block(table, columns, rows, n, stride, term, group, answers);
+    }
+    if n <= 256 {
+        return in_four_blocks(table, columns, rows, n, stride, term, group, answers);
+    }
+    in_blocks(table, columns, rows, n, stride, term, group, answers)
 }
 
-// Room for the ranks: a block of 64 rows takes 64 for each record up to the term. Clearing more would cost more than a small
-// query does.
-fn ranked(
+// One block: 16 records, or all 128.
+fn in_one_block(
     table: &[u8],
     columns: usize,
     rows: &[i32],
     n: usize,
+    stride: usize,
     term: u8,
     group: u8,
     answers: &mut [u16],
 ) -> u16
-    requires { ⌜ AskedRows (now table) columns term (now rows) n × (n ≤ length (now answers)) ⌝ }
+    requires { ⌜ AskedRows (now table) columns term (now rows) n × StrideFor term stride × (n ≤ 64) × (n ≤ length (now answers)) ⌝ }
     ensures { λ r. ⌜ Selected (beatsIn (termAt (now (table .entry)) term) columns (now (rows .entry)) group) n
         (now (answers .entry)) (now (answers .exit)) r ⌝ }
 {
-    let stride = (term as usize) * 64 + 64;
-    let size = (n + 63) / 64 * stride;
-    if size <= 1024 {
+    if stride <= 1024 {
         return in_1024_ranks(table, columns, rows, n, stride, term, group, answers);
     }
-    if size <= 8192 {
+    in_8192_ranks(table, columns, rows, n, stride, term, group, answers)
+}
+
+// Four blocks: 32 records, or more.
+fn in_four_blocks(
+    table: &[u8],
+    columns: usize,
+    rows: &[i32],
+    n: usize,
+    stride: usize,
+    term: u8,
+    group: u8,
+    answers: &mut [u16],
+) -> u16
+    requires { ⌜ AskedRows (now table) columns term (now rows) n × StrideFor term stride × (n ≤ 256) × (n ≤ length (now answers)) ⌝ }
+    ensures { λ r. ⌜ Selected (beatsIn (termAt (now (table .entry)) term) columns (now (rows .entry)) group) n
+        (now (answers .entry)) (now (answers .exit)) r ⌝ }
+{
+    if stride <= 2048 {
         return in_8192_ranks(table, columns, rows, n, stride, term, group, answers);
+    }
+    in_many_ranks(table, columns, rows, n, stride, term, group, answers)
+}
+
+// All 16 blocks of 1,024 rows: 8 records, or more.
+fn in_blocks(
+    table: &[u8],
+    columns: usize,
+    rows: &[i32],
+    n: usize,
+    stride: usize,
+    term: u8,
+    group: u8,
+    answers: &mut [u16],
+) -> u16
+    requires { ⌜ AskedRows (now table) columns term (now rows) n × StrideFor term stride × (n ≤ length (now answers)) ⌝ }
+    ensures { λ r. ⌜ Selected (beatsIn (termAt (now (table .entry)) term) columns (now (rows .entry)) group) n
+        (now (answers .entry)) (now (answers .exit)) r ⌝ }
+{
+    if stride <= 512 {
+        return in_8192_ranks(table, columns, rows, n, stride, term, group, answers);
+    }
+    in_many_ranks(table, columns, rows, n, stride, term, group, answers)
+}
+
+// Room for more than 8,192 ranks: apart from the others, since a large frame takes time to enter.
+fn in_many_ranks(
+    table: &[u8],
+    columns: usize,
+    rows: &[i32],
+    n: usize,
+    stride: usize,
+    term: u8,
+    group: u8,
+    answers: &mut [u16],
+) -> u16
+    requires { ⌜ AskedRows (now table) columns term (now rows) n × StrideFor term stride × (n ≤ length (now answers)) ⌝ }
+    ensures { λ r. ⌜ Selected (beatsIn (termAt (now (table .entry)) term) columns (now (rows .entry)) group) n
+        (now (answers .entry)) (now (answers .exit)) r ⌝ }
+{
+    let size = (n + 63) / 64 * stride;
+    if size <= 16384 {
+        return in_16384_ranks(table, columns, rows, n, stride, term, group, answers);
     }
     if size <= 32768 {
         return in_32768_ranks(table, columns, rows, n, stride, term, group, answers);
@@ -113,6 +180,36 @@ fn in_8192_ranks(
         (now (answers .entry)) (now (answers .exit)) r ⌝ }
 {
     let mut ranks = [0i32; 8192];
+    prepared(
+        table,
+        columns,
+        rows,
+        n,
+        stride,
+        term,
+        group,
+        &mut ranks,
+        answers,
+    )
+}
+
+// Room for 16 records of 16 blocks.
+fn in_16384_ranks(
+    table: &[u8],
+    columns: usize,
+    rows: &[i32],
+    n: usize,
+    stride: usize,
+    term: u8,
+    group: u8,
+    answers: &mut [u16],
+) -> u16
+    requires { ⌜ AskedRows (now table) columns term (now rows) n × StrideFor term stride × Room n stride 16384
+        × (n ≤ length (now answers)) ⌝ }
+    ensures { λ r. ⌜ Selected (beatsIn (termAt (now (table .entry)) term) columns (now (rows .entry)) group) n
+        (now (answers .entry)) (now (answers .exit)) r ⌝ }
+{
+    let mut ranks = [0i32; 16384];
     prepared(
         table,
         columns,

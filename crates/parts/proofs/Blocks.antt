@@ -29,13 +29,6 @@ strict-rows {table} {columns} {term} t rows group =
     let s = taken-sound table columns term t in
     beats-strict columns rows group (termAt table term) (ordered (termAt table term) (s .0) (s .1) .strict)
 
--- Rows of that many blocks at most.
-pub room-for-blocks : (n stride count size : ℕ) → n ≤ count * 64 → count * stride ≤ size → Room n stride size
-room-for-blocks n stride count size h k =
-    let b : (n + 63) / 64 ≤ count = omega (arith, h) in
-    let m = mul-le-mul-right stride b in
-    room-for n stride size (omega (arith, k, m))
-
 module _ {table : List ℕ} {columns term : ℕ} {rows : List ℤ} {n stride : ℕ}
     (asked : AskedRows table columns term rows n) (strides : StrideFor term stride) where
   -- All that is prepared.

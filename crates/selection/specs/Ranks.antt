@@ -28,6 +28,13 @@ room-for n stride size h =
           omega (arith, h, m, suc-mul b stride);
     }
 
+-- Rows of that many blocks at most.
+pub room-for-blocks : (n stride count size : ℕ) → n ≤ count * 64 → count * stride ≤ size → Room n stride size
+room-for-blocks n stride count size h k =
+    let b : (n + 63) / 64 ≤ count = omega (arith, h) in
+    let m = mul-le-mul-right stride b in
+    room-for n stride size (omega (arith, k, m))
+
 -- There are at most 16 blocks of at most 128 records.
 pub most-ranks : (n stride : ℕ) → n ≤ 1024 → stride ≤ 8192 → (n + 63) / 64 * stride ≤ 131072
 most-ranks n stride h k =

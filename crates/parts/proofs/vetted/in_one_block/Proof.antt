@@ -1,7 +1,7 @@
 -- `parts::vetted::in_one_block` meets its contract. Assumes nothing.
 use native.Mathlib.Omega.{arith}
 use borrow.Author.Needs.{needs}
-use Rattle.parts.proofs.Blocks.{room-for-blocks}
+use Rattle.selection.specs.Ranks.{room-for-blocks}
 use Rattle.parts.proofs.vetted.in_one_block.Statement.{statement}
 use Rattle.parts.proofs.vetted.in_one_block.Tie as tie
 

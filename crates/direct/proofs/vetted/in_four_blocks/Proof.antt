@@ -1,0 +1,43 @@
+-- `direct::vetted::in_four_blocks` meets its contract. Assumes nothing.
+use native.Mathlib.Omega.{arith}
+use borrow.Author.Needs.{needs}
+use Rattle.selection.specs.Ranks.{room-for-blocks}
+use Rattle.direct.proofs.vetted.in_four_blocks.Statement.{statement}
+use Rattle.direct.proofs.vetted.in_four_blocks.Tie as tie
+
+in-8192-ranks-requires : tie.Need-in-8192-ranks-requires
+in-8192-ranks-requires c κs =
+    let s = c .before .before .before .before in
+    let h = s .pre .2 in
+    let k = c .before .if1 .taken in
+    let ranks = room-for-blocks (s .args .n) (s .args .stride) 4 8192 (omega (arith, h)) (omega (arith, k)) in
+    (s .pre .0, s .pre .1, ranks, s .pre .3)
+
+same-length : tie.Need-same-length
+same-length c = search needs
+
+returns : tie.Need-returns
+returns c = search needs
+
+in-many-ranks-requires : tie.Need-in-many-ranks-requires
+in-many-ranks-requires c κs =
+    let s = c .before .before .before .before in
+    let h = s .pre .2 in
+    (s .pre .0, s .pre .1, s .pre .3)
+
+same-length-2 : tie.Need-same-length-2
+same-length-2 c = search needs
+
+returns-2 : tie.Need-returns-2
+returns-2 c = search needs
+
+pub in-four-blocks-spec : {M : Type 1} → statement M
+in-four-blocks-spec =
+    tie.close
+    (tie.spec
+    in-8192-ranks-requires
+    same-length
+    returns
+    in-many-ranks-requires
+    same-length-2
+    returns-2)
