@@ -1,9 +1,9 @@
--- `demands::engines_agree` meets its contract, by those of the two engines. Assumes nothing.
+-- `query_demands::engines_agree` meets its contract, by those of the two engines. Assumes nothing.
 use denote.Ref.{now}
 use borrow.Author.Needs.{needs}
-use Rattle.demands.proofs.Agreed.{agreed}
-use Rattle.demands.proofs.engines_agree.Statement.{statement}
-use Rattle.demands.proofs.engines_agree.Tie as tie
+use Rattle.query_demands.proofs.Agreed.{agreed}
+use Rattle.query_demands.proofs.engines_agree.Statement.{statement}
+use Rattle.query_demands.proofs.engines_agree.Tie as tie
 
 query-direct-requires : tie.Need-query-direct-requires
 query-direct-requires c κs = search needs

@@ -16,9 +16,10 @@ use Rattle.laws.specs.Outcome.{isFirst, turned, is-first}
 use Rattle.laws.specs.Compared.{outcome-turned}
 use Rattle.laws.specs.Taken.{taken-sound}
 use Rattle.laws.specs.Replied.{compared-reply, reply-self}
 use Rattle.demands.specs.Strictly.{TermRecord}
 use Rattle.agreement.specs.Given.{numberGiven}
+use Rattle.agreement.proofs.Numbered.{is-one}
 use Rattle.demands.specs.Ordered.{taken}
 
 -- ---- what the functions test
 
@@ -43,12 +44,6 @@ below-four Same = refl
 below-four First = refl
 below-four Second = refl
 below-four Unranked = refl
-
-pub is-one : (o : Outcome) → eqb (numberGiven (CompareReply.Compared o)) 1 ≡ isFirst o
-is-one Same = refl
-is-one First = refl
-is-one Second = refl
-is-one Unranked = refl
 
 if-then : (p q : Bool) → (p ≡ true → q ≡ true) → (not p || q) ≡ true
 if-then true q f = f refl

@@ -1,11 +1,12 @@
--- `demands::beaten_by_kept` meets its contract, by those of the two engines. Assumes nothing.
+-- `query_demands::beaten_by_kept` meets its contract, by those of the two engines. Assumes nothing.
 use mathlib.Core.Path.{_∙_}
 use denote.Ref.{now}
 use borrow.Author.Needs.{needs}
 use Rattle.laws.specs.Bools.{and-i}
-use Rattle.demands.proofs.Witnesses.{replied-answers, engine-witnessed, still-long, refused-false}
-use Rattle.demands.proofs.beaten_by_kept.Statement.{statement}
-use Rattle.demands.proofs.beaten_by_kept.Tie as tie
+use Rattle.demands.specs.Asked.{Asked}
+use Rattle.query_demands.proofs.Witnesses.{replied-answers, engine-witnessed, still-long, refused-false}
+use Rattle.query_demands.proofs.beaten_by_kept.Statement.{statement}
+use Rattle.query_demands.proofs.beaten_by_kept.Tie as tie
 
 query-direct-requires : tie.Need-query-direct-requires
 query-direct-requires c κs = search needs
@@ -40,7 +41,14 @@ returns c =
     let a = d .before .before .before .before .args in
     let t = now (a .table) in
     let r = now (a .rows) in (
-      λ asked long. and-i
+      λ ok low is rows-fit group-fits long.
+          let asked : Asked t (a .columns) r (a .term) (a .group) =
+          record {
+            ofTerm = record { isAccepted = ok; below = low; isRecord = is };
+            rowsFit = rows-fit;
+            groupFits = group-fits;
+          } in
+          and-i
           (engine-witnessed t (a .columns) r (a .term) (a .group) asked (now (a .answers)) long
           (d .query-direct .result) _ (w .reply-witnessed .result) (d .query-direct .ensures .0)
           (d .query-direct .ensures .1) (w .reply-witnessed .ensures))

@@ -1,9 +1,9 @@
--- `demands::chained` meets its contract, by that of `compare`. Assumes nothing.
+-- `compare_demands::chained` meets its contract, by that of `compare`. Assumes nothing.
 use denote.Ref.{now}
 use borrow.Author.Needs.{needs}
-use Rattle.demands.proofs.Replies.{chained-passes}
-use Rattle.demands.proofs.chained.Statement.{statement}
-use Rattle.demands.proofs.chained.Tie as tie
+use Rattle.compare_demands.proofs.Replies.{chained-passes}
+use Rattle.compare_demands.proofs.chained.Statement.{statement}
+use Rattle.compare_demands.proofs.chained.Tie as tie
 
 compare-requires : tie.Need-compare-requires
 compare-requires c κs = search needs
@@ -29,7 +29,7 @@ returns c =
     let l = k .before in
     let m = l .before .before in
     let a = m .before .before .before .args in
-    λ t e f g.
+    λ ok low is e f g.
     rw (
       m .number-given .ensures,
       m .before .compare .ensures,
@@ -38,7 +38,8 @@ returns c =
       c .number-given3 .ensures,
       k .compare3 .ensures,
     )
-    (chained-passes (now (a .table)) (a .columns) (a .term) t (now (a .x)) (now (a .y)) (now (a .z)) e f g)
+    (chained-passes (now (a .table)) (a .columns) (a .term)
+    (record { isAccepted = ok; below = low; isRecord = is }) (now (a .x)) (now (a .y)) (now (a .z)) e f g)
 
 pub chained-spec : {M : Type 1} → statement M
 chained-spec =

@@ -27,10 +27,10 @@ use Rattle.laws.specs.Taken.{Taken, taken-gives, taken-asked, taken-sound}
 use Rattle.laws.specs.Replied.{compared-reply}
 use Rattle.cells.specs.Places.{row-length}
 use Rattle.agreement.specs.Given.{numberGiven}
+use Rattle.agreement.proofs.Numbered.{is-one}
 use Rattle.demands.specs.Asked.{Asked, Long, BeatenBy}
 use Rattle.demands.specs.Dropped.{query-takes, dropped-beaten-by-kept}
 use Rattle.agreement.specs.Witness.{Answers, isWitness, witnessed, allWitnessed, whereKept}
-use Rattle.demands.proofs.Replies.{is-one}
 
 -- A reply refuses or it does not.
 not-refused : (r : QueryReply) (why : Refusal) (total : ℕ) → r ≡ QueryReply.Refused why → r ≡ QueryReply.Kept total → ⊥

@@ -1,9 +1,9 @@
--- `demands::turned` meets its contract, by that of `compare`. Assumes nothing.
+-- `compare_demands::turned` meets its contract, by that of `compare`. Assumes nothing.
 use denote.Ref.{now}
 use borrow.Author.Needs.{needs}
-use Rattle.demands.proofs.Replies.{turned-passes}
-use Rattle.demands.proofs.turned.Statement.{statement}
-use Rattle.demands.proofs.turned.Tie as tie
+use Rattle.compare_demands.proofs.Replies.{turned-passes}
+use Rattle.compare_demands.proofs.turned.Statement.{statement}
+use Rattle.compare_demands.proofs.turned.Tie as tie
 
 compare-requires : tie.Need-compare-requires
 compare-requires c κs = search needs
@@ -24,8 +24,9 @@ returns c =
     let a = l .before .before .before .args in
     let x = now (a .x) in
     let y = now (a .y) in
-    λ t e f. rw (l .number-given .ensures, l .before .compare .ensures, c .number-given2 .ensures, k .compare2 .ensures)
-    (turned-passes (now (a .table)) (a .columns) (a .term) t x y y e f f)
+    λ ok low is e f. rw (l .number-given .ensures, l .before .compare .ensures, c .number-given2 .ensures, k .compare2 .ensures)
+    (turned-passes (now (a .table)) (a .columns) (a .term)
+    (record { isAccepted = ok; below = low; isRecord = is }) x y y e f f)
 
 pub turned-spec : {M : Type 1} → statement M
 turned-spec =
