@@ -1,4 +1,4 @@
--- `blocks::vetted::base::explicit_codes` meets its contract. Assumes nothing.
+-- `base_lanes::vetted::explicit_codes` meets its contract. Assumes nothing.
 use mathlib.Core.Path.{_≡_, _∙_}
 use native.Mathlib.Omega.{arith}
 use lib.IntN.{pos}
@@ -7,9 +7,9 @@ use mir.Val.{toZ, ofZ}
 use mir.Facts.{toZ-ofZ}
 use borrow.Author.Needs.{needs}
 use Rattle.classes.specs.Leads.{ends-of}
-use Rattle.blocks.proofs.Lanes.{place-coded}
-use Rattle.blocks.proofs.vetted.base.explicit_codes.Statement.{statement}
-use Rattle.blocks.proofs.vetted.base.explicit_codes.Tie as tie
+use Rattle.base_lanes.proofs.Lanes.{place-coded}
+use Rattle.base_lanes.proofs.vetted.explicit_codes.Statement.{statement}
+use Rattle.base_lanes.proofs.vetted.explicit_codes.Tie as tie
 
 -- The row's rank is its place.
 place-is : (c : tie.Start) → toZ w32 (ofZ w32 (c .args .x)) ≡ pos (c .pre .0 .own .place)

@@ -1,10 +1,10 @@
--- `blocks::vetted::base::place_code` meets its contract. Assumes nothing.
+-- `base_lanes::vetted::place_code` meets its contract. Assumes nothing.
 use mathlib.Core.Path.{sym, _∙_}
 use borrow.Author.Needs.{needs}
 use Rattle.laws.specs.ValueCodes.{testsCode}
-use Rattle.blocks.specs.Base.{placesCode}
-use Rattle.blocks.proofs.vetted.base.place_code.Statement.{statement}
-use Rattle.blocks.proofs.vetted.base.place_code.Tie as tie
+use Rattle.base_lanes.specs.Base.{placesCode}
+use Rattle.base_lanes.proofs.vetted.place_code.Statement.{statement}
+use Rattle.base_lanes.proofs.vetted.place_code.Tie as tie
 
 leads-requires : tie.Need-leads-requires
 leads-requires c κs = search needs

@@ -1,13 +1,13 @@
--- `blocks::vetted::base::base_codes` meets its contract: one arm for each base term. Assumes nothing.
+-- `base_lanes::vetted::base_codes` meets its contract: one arm for each base term. Assumes nothing.
 use mathlib.Core.Path.{ap}
 use mir.Facts.{toZ-ofZ}
 use denote.Ref.{now}
 use borrow.Author.Needs.{needs}
 use Rattle.laws.specs.Runs.{valuesBetween}
 use Rattle.ranks.specs.ByRank.{isExplicit, lowest-same, highest-same}
-use Rattle.blocks.proofs.Lanes.{ranked-coded, order-coded}
-use Rattle.blocks.proofs.vetted.base.base_codes.Statement.{statement}
-use Rattle.blocks.proofs.vetted.base.base_codes.Tie as tie
+use Rattle.base_lanes.proofs.Lanes.{ranked-coded, order-coded}
+use Rattle.base_lanes.proofs.vetted.base_codes.Statement.{statement}
+use Rattle.base_lanes.proofs.vetted.base_codes.Tie as tie
 
 mul-a : tie.Need-mul-a
 mul-a c = search needs

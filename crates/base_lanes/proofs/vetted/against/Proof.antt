@@ -1,13 +1,13 @@
--- `blocks::vetted::base::against` meets its contract: the array holds the codes against places below `q`. Assumes nothing.
+-- `base_lanes::vetted::against` meets its contract: the array holds the codes against places below `q`. Assumes nothing.
 use mathlib.Core.Path.{_≡_, refl}
 use Prim.Native.Nat.{_+_, _*_, _-_, _≤_}
 use native.Mathlib.Omega.{arith}
 use lib.ListN.{length, length-set}
 use borrow.Author.Needs.{needs}
-use Rattle.blocks.specs.Base.{Against}
-use Rattle.blocks.proofs.Lanes.{against-more}
-use Rattle.blocks.proofs.vetted.base.against.Statement.{statement}
-use Rattle.blocks.proofs.vetted.base.against.Tie as tie
+use Rattle.base_lanes.specs.Base.{Against}
+use Rattle.base_lanes.proofs.Lanes.{against-more}
+use Rattle.base_lanes.proofs.vetted.against.Statement.{statement}
+use Rattle.base_lanes.proofs.vetted.against.Tie as tie
 
 abbrev Inv-loop : tie.InvT-loop
 Inv-loop reach k e p first last to₀ q₀ to q =

@@ -21,7 +21,7 @@ use Rattle.ranks.specs.Rank.{rankOf, RankAt, PlaceOf}
 use Rattle.ranks.specs.ByRank.{isExplicit, rank-code}
 use Rattle.lanes.specs.Wrote.{Wrote}
 use Rattle.lanes.specs.Lanes.{orderCode, orderLane, rankedLane, placeCode, placeLane}
-use Rattle.blocks.specs.Base.{BaseAsked, BaseCoded, placesCode, Against}
+use Rattle.base_lanes.specs.Base.{BaseAsked, BaseCoded, placesCode, Against}
 
 -- Unranked or better where the values differ, and else the same.
 apart : (same first second : Bool) → cond same 0 (testsCode false first second) ≡ testsCode same first second

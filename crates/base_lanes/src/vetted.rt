@@ -9,7 +9,7 @@ ghost use mathlib.Core.Path.{_≡_};
 ghost use Prim.Native.Nat.{_+_, _*_};
 ghost use Rattle.model.specs.declared.BaseTerm.the-variants.{Explicit};
 ghost use Rattle.classes.specs.Places.{Ends};
-ghost use Rattle.blocks.specs.Base.{BaseAsked, BaseRoom, BaseCoded, placesCode, Against};
+ghost use Rattle.base_lanes.specs.Base.{BaseAsked, BaseRoom, BaseCoded, placesCode, Against};
 
 pub fn base_codes(
     table: &[u8],
