@@ -1,4 +1,3 @@
-pub mod Lanes
 pub mod Coded
 pub mod OfBase
 pub mod OfCompound

@@ -22,7 +22,7 @@ use Rattle.laws.specs.AcceptedKinds.{AcceptedBase, accepted-base}
 use Rattle.laws.specs.AcceptedTerms.{accepted-sound}
 use Rattle.values.specs.Prepared.{Run}
 use Rattle.rank.specs.Rank.{RankAt}
-use Rattle.blocks.specs.Base.{BaseAsked, BaseRoom, BaseCoded}
+use Rattle.base_lanes.specs.Base.{BaseAsked, BaseRoom, BaseCoded}
 use Rattle.blocks.specs.Blocks.{Ready, AtRecord, Coded}
 use Rattle.blocks.proofs.Coded.{ok, below, record-below, ranks-end, coded-more}
 

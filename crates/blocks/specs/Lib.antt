@@ -1,3 +1,2 @@
 -- What is prepared once per query, and the codes of a row and a block.
-pub mod Base
 pub mod Blocks

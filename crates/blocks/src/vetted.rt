@@ -1,6 +1,6 @@
 // The codes of row i against the rows of block b under each record beneath the asked term, upward. A base record's come from
 // ranks and values, a compound's from its parts' codes and nothing else. No public calls: each asks what was prepared before.
-use crate::vetted::base::base_codes;
+use base_lanes::vetted::base_codes;
 use known::vetted::all_known;
 use known::vetted::put_known;
 use known::vetted::start_known;
@@ -17,8 +17,6 @@ ghost use lib.ListN.{length};
 ghost use Rattle.lanes.specs.Wrote.{Wrote};
 ghost use Rattle.beneath.specs.Beneath.{OfParts};
 ghost use Rattle.blocks.specs.Blocks.{Ready, AtRecord, Coded, RecordTold, AskedCoded, joinedLane, compoundLane};
-
-mod base;
 
 // The asked term's codes in the lanes that are lit, from what the records up to it tell.
 pub fn block_codes(

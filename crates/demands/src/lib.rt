@@ -1,14 +1,7 @@
 // The third signed sentence (document 00), whole, as document 01 spells it ("What demand 3 says, word by word"). Theorems
-// about the definitions that the calls' contracts cite, with an empty body; and functions that call the public calls and are
-// proved from their contracts alone. "Keeps" is that Query, by either engine, gives row i the entry i: `keeps` reads
-// `queryBuffer`, which is what both engines write. a, b and c are answer buffers.
-use agreement::given::number_given;
-use agreement::same::same_entries;
-use agreement::same::same_reply;
-use agreement::vetted::reply_witnessed;
-use compare::compare;
-use query::query_by_parts;
-use query::query_direct;
+// about the definitions that the calls' contracts cite, with an empty body; crates `compare_demands` and `query_demands` say
+// it of the calls themselves. "Keeps" is that Query, by either engine, gives row i the entry i: `keeps` reads `queryBuffer`,
+// which is what both engines write. a, b and c are answer buffers.
 ghost use mathlib.Core.Path.{_≡_};
 ghost use mathlib.Core.Logic.{_⊎_, _↔_};
 ghost use mathlib.Core.Bool.{true, false, _&&_};
@@ -17,7 +10,7 @@ ghost use Prim.Native.Nat.{ℕ, _<_};
 ghost use lib.Bits.{bitOr};
 ghost use lib.IntN.{ℤ};
 ghost use lib.ListN.{length, getD};
-ghost use Rattle.model.specs.declared.{Outcome.Outcome, Refusal.Refusal, CompareReply.CompareReply, QueryReply.QueryReply};
+ghost use Rattle.model.specs.declared.{Outcome.Outcome, CompareReply.CompareReply};
 ghost use Rattle.model.specs.Record.{kindAt, pAt, qAt};
 ghost use Rattle.model.specs.Term.{termAt, columnsOf};
 ghost use Rattle.model.specs.Better.{Row, EqualIn, better};
@@ -191,81 +184,3 @@ pub fn chain_cascade()
         × ((j : ℕ) → keeps table columns rows (pAt table k) group b j ≡ true
         → BeatenBy table columns rows (qAt table k) group i j → ⊥))) ⌝ }
 {}
-
-// ---- the same of the calls themselves. Each function says whether the sentence holds of its arguments; that it always
-// does, of whatever document 01 claims it, is its contract.
-
-// Compare of a row with itself gives same, and is not refused.
-pub fn same_row(table: &[u8], columns: usize, term: usize, x: &[i32]) -> bool
-    ensures { λ r. ⌜ (TermRecord (now (table .entry)) columns term → length (now (x .entry)) ≡ columns → r ≡ true) ⌝ }
-{
-    number_given(compare(table, columns, term, x, x)) == 0
-}
-
-// First better and second better change places with the rows, same and unranked stay, and neither call is refused.
-pub fn turned(table: &[u8], columns: usize, term: usize, x: &[i32], y: &[i32]) -> bool
-    ensures { λ r. ⌜ (TermRecord (now (table .entry)) columns term → length (now (x .entry)) ≡ columns
-        → length (now (y .entry)) ≡ columns → r ≡ true) ⌝ }
-{
-    let there = number_given(compare(table, columns, term, x, y));
-    let back = number_given(compare(table, columns, term, y, x));
-    ((there == 0) & (back == 0))
-        | ((there == 1) & (back == 2))
-        | ((there == 2) & (back == 1))
-        | ((there == 3) & (back == 3))
-}
-
-// First better of x, y and of y, z gives first better of x, z, and none of the three calls is refused.
-pub fn chained(table: &[u8], columns: usize, term: usize, x: &[i32], y: &[i32], z: &[i32]) -> bool
-    ensures { λ r. ⌜ (TermRecord (now (table .entry)) columns term → length (now (x .entry)) ≡ columns
-        → length (now (y .entry)) ≡ columns → length (now (z .entry)) ≡ columns → r ≡ true) ⌝ }
-{
-    let a = number_given(compare(table, columns, term, x, y));
-    let b = number_given(compare(table, columns, term, y, z));
-    let c = number_given(compare(table, columns, term, x, z));
-    (a < 4) & (b < 4) & (c < 4) & (!((a == 1) & (b == 1)) | (c == 1))
-}
-
-// The two engines, each with a buffer of its own: whether their replies and buffers are the same. They are, for whatever
-// input, refused or not, where the buffers began alike.
-pub fn engines_agree(
-    table: &[u8],
-    columns: usize,
-    rows: &[i32],
-    term: usize,
-    group: u8,
-    a: &mut [u16],
-    b: &mut [u16],
-) -> bool
-    ensures { λ r. ⌜ ((r ≡ true)
-        ↔ ((queryReply (now (table .entry)) columns (now (rows .entry)) term group (now (a .entry))
-        ≡ queryReply (now (table .entry)) columns (now (rows .entry)) term group (now (b .entry)))
-        × (now (a .exit) ≡ now (b .exit))))
-        × (now (a .entry) ≡ now (b .entry) → (r ≡ true) × (now (a .exit) ≡ now (b .exit))) ⌝ }
-{
-    let direct = query_direct(table, columns, rows, term, group, a);
-    let parts = query_by_parts(table, columns, rows, term, group, b);
-    same_reply(direct, parts) & same_entries(a, b)
-}
-
-// Each engine in turn: whether each dropped row's entry is a row that holds its own number, is in its group, and is first
-// better in Compare's reply. It is, where Query refuses nothing; a refusal is answered by false.
-pub fn beaten_by_kept(
-    table: &[u8],
-    columns: usize,
-    rows: &[i32],
-    term: usize,
-    group: u8,
-    answers: &mut [u16],
-) -> bool
-    ensures { λ r. ⌜ (Asked (now (table .entry)) columns (now (rows .entry)) term group
-        → Long columns (now (rows .entry)) (now (answers .entry)) → r ≡ true)
-        × ((why : Refusal)
-        → queryReply (now (table .entry)) columns (now (rows .entry)) term group (now (answers .entry)) ≡ QueryReply.Refused why
-        → r ≡ false) ⌝ }
-{
-    let direct = query_direct(table, columns, rows, term, group, answers);
-    let witnessed = reply_witnessed(direct, table, columns, rows, term, group, answers);
-    let parts = query_by_parts(table, columns, rows, term, group, answers);
-    witnessed & reply_witnessed(parts, table, columns, rows, term, group, answers)
-}
