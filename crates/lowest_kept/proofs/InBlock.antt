@@ -1,11 +1,10 @@
 -- The lowest kept row that is better than row i, block by block, over any relation. Assumes nothing.
 use mathlib.Core.Path.{_≡_, sym, _∙_}
 use mathlib.Core.Logic.{⊎-elim}
-use mathlib.Core.Bool.{Bool, true, false, _&&_, false≢true}
+use mathlib.Core.Bool.{Bool, true, false, false≢true}
 use mathlib.Core.List.{List}
-use Prim.Native.Nat.{ℕ, _+_, _*_, _<_, _≤_}
+use Prim.Native.Nat.{ℕ, _+_, _<_, _≤_}
 use native.Mathlib.Omega.{arith}
-use lib.ListN.{getD}
 use Rattle.model.specs.Search.{anyBelow, findBelow}
 use Rattle.model.specs.Query.{kept}
 use Rattle.laws.specs.Bools.{on-or-off}
@@ -31,6 +30,7 @@ miss-more p j before e x l = ⊎-elim (λ q. rw q e) (λ q. before x (omega arit
 -- ---- one block, the first row of which is row lo
 
 module _ (beats : Rel ℕ) (n i lo : ℕ) (gone : List ℕ) (settled : Settled beats n gone) where
+  -- A row that is not gone is kept.
   free-kept : (j : ℕ) → lo + j < n → free gone lo j ≡ kept n beats (lo + j)
   unfolding free
   free-kept j l = settled .each (lo + j) l
@@ -77,6 +77,7 @@ module _ (beats : Rel ℕ) (n i lo : ℕ) (gone : List ℕ) (settled : Settled b
 -- ---- block after block
 
 module _ (beats : Rel ℕ) (n i : ℕ) where
+  -- There is no row before the first block.
   pub none-start : NoneBelow beats n i 0
   none-start a l = absurd (omega arith)
 

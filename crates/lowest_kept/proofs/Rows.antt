@@ -5,7 +5,6 @@ use mathlib.Core.Bool.{true, false, false≢true}
 use mathlib.Core.List.{List}
 use Prim.Native.Nat.{ℕ, _+_, _<_, _≤_}
 use native.Mathlib.Omega.{arith}
-use lib.Dec.{eqb}
 use lib.ListN.{length, getD, set, replicate, getD-replicate}
 use lib.Seq.{getD-set-same, getD-set-other}
 use borrow.Author.Tests.{eq-eqb, ne-eqb}
@@ -57,9 +56,11 @@ module _ (beats : Rel ℕ) (n : ℕ) where
   known-right : (i v : ℕ) → (v ≡ 1024 → ⊥) → Right beats n 0 i v → Right beats n n i v
   known-right i v e r = ⊎-elim (λ q. absurd (e (q ∙ none-named i))) (λ f. inr f) r
 
+  -- Before the first row none has its name but those that were given,
   pub to-start : (by : List ℕ) → Named beats n 0 by → NamedTo beats n 0 by
   to-start by r = record { done = λ i l. absurd (omega arith); left = λ i _ l d. r .each i l d }
 
+  -- and after the last each has.
   pub to-end : (by : List ℕ) → NamedTo beats n n by → Named beats n n by
   to-end by r = record { each = λ i l d. r .done i l l d }
 
