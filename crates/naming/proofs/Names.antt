@@ -8,7 +8,7 @@ use Prim.Native.Nat.{ℕ, _+_, _<_, _≤_}
 use native.Mathlib.Omega.{arith}
 use lib.Dec.{eqb}
 use lib.ListN.{getD}
-use borrow.Author.Tests.{eq-eqb, ne-eqb}
+use borrow.Author.Tests.{ne-eqb}
 use Rattle.model.specs.Query.{kept}
 use Rattle.laws.specs.Bools.{on-or-off}
 use Rattle.laws.specs.Order.{Rel}
@@ -17,21 +17,12 @@ use Rattle.lanes.specs.Wrote.{Wrote}
 use Rattle.lit_lanes.specs.Lit.{pending, hit}
 use Rattle.lane_marks.specs.Marks.{nameLane}
 use Rattle.live.specs.Alive.{Beyond}
-use Rattle.naming.specs.Naming.{named, Right, Named, Naming}
 use Rattle.rounds.proofs.Hits.{Hits, Dark, in-block}
+use Rattle.lowest_kept.specs.Named.{named, Right, Named}
+use Rattle.naming.specs.Naming.{Naming}
 use Rattle.naming.proofs.Lowest.{named-next, named-dropped}
 
 -- ---- one lane
-
--- A row that is not gone is kept,
-pub kept-of : (beats : Rel ℕ) (n i : ℕ) (gone : List ℕ) → Settled beats n gone → i < n → getD gone i 0 ≡ 0
-    → kept n beats i ≡ true
-kept-of beats n i gone s l e = sym (s .each i l) ∙ eq-eqb (getD gone i 0) 0 e
-
--- and one that is gone is dropped.
-pub dropped-of : (beats : Rel ℕ) (n i : ℕ) (gone : List ℕ) → Settled beats n gone → i < n → (getD gone i 0 ≡ 0 → ⊥)
-    → kept n beats i ≡ false
-dropped-of beats n i gone s l e = sym (s .each i l) ∙ ne-eqb (getD gone i 0) 0 e
 
 pending-gone : (gone by : List ℕ) (lo j : ℕ) → eqb (getD gone (lo + j) 0) 0 ≡ false
     → pending gone by lo j ≡ eqb (getD by (lo + j) 0) 1024

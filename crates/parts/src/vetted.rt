@@ -24,6 +24,7 @@ ghost use Rattle.elimination.specs.Elimination.{Settled};
 ghost use Rattle.elimination.specs.Firsts.{Firsts};
 ghost use Rattle.cells.specs.Keys.{Keyed};
 ghost use Rattle.cells.specs.Values.{Room};
+ghost use Rattle.live.specs.Alive.{Above};
 ghost use Rattle.blocks.specs.Blocks.{Ready};
 ghost use Rattle.selection.specs.Selected.{AskedRows, StrideFor, Selected};
 
@@ -507,7 +508,8 @@ fn named(
         (now ranks) (now values) × (length (now gone) ≡ 1024) × Settled (beatsIn (termAt (now table) term) columns (now rows) group) n (now gone)
         × (8192 ≤ length (now codes)) × (n ≤ length (now answers))
         × Keyed group columns (now rows) n (now keys)
-        × Firsts (beatsIn (termAt (now table) term) columns (now rows) group) n (now gone) (now first) ⌝ }
+        × Firsts (beatsIn (termAt (now table) term) columns (now rows) group) n (now gone) (now first)
+        × Above n (now gone) ⌝ }
     ensures { λ r. ⌜ Selected (beatsIn (termAt (now (table .entry)) term) columns (now (rows .entry)) group) n
         (now (answers .entry)) (now (answers .exit)) r ⌝ }
 {

@@ -46,7 +46,8 @@ pub fn eliminate(
         × (length (now first) ≡ 1024)
         × Firsts (beatsIn (termAt (now table) term) columns (now rows) group) n (now gone) (now first) ⌝ }
     ensures { λ _. ⌜ Settled (beatsIn (termAt (now (table .entry)) term) columns (now (rows .entry)) group) n (now (gone .exit))
-        × Firsts (beatsIn (termAt (now (table .entry)) term) columns (now (rows .entry)) group) n (now (gone .exit)) (now (first .exit)) ⌝ }
+        × Firsts (beatsIn (termAt (now (table .entry)) term) columns (now (rows .entry)) group) n (now (gone .exit)) (now (first .exit))
+        × Above n (now (gone .exit)) ⌝ }
 {
     let mut i = 0;
     while i < n {

@@ -3,7 +3,8 @@ use mathlib.Core.Path.{sym, _∙_}
 use native.Mathlib.Omega.{arith}
 use borrow.Author.Needs.{needs}
 use Rattle.rounds.proofs.Hits.{cells, asked-below, row-below, ready-hits, ready-dark}
-use Rattle.naming.proofs.Names.{kept-of, names-some, names-none, beyond-some}
+use Rattle.lowest_kept.proofs.Rows.{kept-of}
+use Rattle.naming.proofs.Names.{names-some, names-none, beyond-some}
 use Rattle.naming.proofs.vetted.name_block.Statement.{statement}
 use Rattle.naming.proofs.vetted.name_block.Tie as tie
 

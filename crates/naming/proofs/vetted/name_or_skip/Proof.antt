@@ -1,7 +1,8 @@
 -- `naming::vetted::name_or_skip` meets its contract: a row that is gone is dropped, and names none. Assumes
 -- nothing.
 use borrow.Author.Needs.{needs}
-use Rattle.naming.proofs.Names.{dropped-of, named-gone}
+use Rattle.lowest_kept.proofs.Rows.{dropped-of}
+use Rattle.naming.proofs.Names.{named-gone}
 use Rattle.naming.proofs.vetted.name_or_skip.Statement.{statement}
 use Rattle.naming.proofs.vetted.name_or_skip.Tie as tie
 

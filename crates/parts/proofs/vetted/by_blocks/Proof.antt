@@ -64,6 +64,7 @@ named-requires c κs =
       s .pre .1,
       k .fill-keys .ensures,
       e .eliminate .ensures .1,
+      e .eliminate .ensures .2,
     )
 
 same-length : tie.Need-same-length

@@ -33,6 +33,7 @@ name-requires c κs =
       rest-named _ _ w,
       known-names _ _ (s .pre .0 .few) _ _ (s .pre .2) (s .pre .6) _ _ w,
       s .pre .5,
+      s .pre .7,
     )
 
 slice-aggregate-write-answers : tie.Need-slice-aggregate-write-answers

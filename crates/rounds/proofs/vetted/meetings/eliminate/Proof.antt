@@ -61,7 +61,7 @@ returns c =
     let v = c .before .loop .inv in
     let p = c .before .before .before .before .before .before .pre in
     let q = le-antisymm (v .0) (c .loop-test .left) in
-    (settled-of _ _ _ (ready-strict (p .0) _) (rw q at (v .3)), v .6)
+    (settled-of _ _ _ (ready-strict (p .0) _) (rw q at (v .3)), v .6, v .4)
 
 pub eliminate-spec : {M : Type 1} → statement M
 eliminate-spec =

@@ -1,5 +1,4 @@
--- `naming::vetted::name` meets its contract: the rows below i have named the rows that they beat. Assumes
--- nothing.
+-- `lowest_kept::vetted::by_rows` meets its contract: the rows below i have their name. Assumes nothing.
 use mathlib.Core.Path.{_≡_, refl}
 use Prim.Native.Nat.{_-_, _≤_}
 use native.Mathlib.Nat.{le-antisymm}
@@ -8,15 +7,14 @@ use lib.ListN.{length}
 use borrow.Author.Needs.{needs}
 use Rattle.model.specs.Term.{termAt}
 use Rattle.model.specs.Query.{beatsIn}
-use Rattle.live.specs.Alive.{Beyond}
-use Rattle.naming.specs.Naming.{Named}
-use Rattle.naming.proofs.vetted.name.Statement.{statement}
-use Rattle.naming.proofs.vetted.name.Tie as tie
+use Rattle.lowest_kept.specs.Named.{NamedTo}
+use Rattle.lowest_kept.proofs.Rows.{to-start, to-end}
+use Rattle.lowest_kept.proofs.vetted.by_rows.Statement.{statement}
+use Rattle.lowest_kept.proofs.vetted.by_rows.Tie as tie
 
 abbrev Inv-loop : tie.InvT-loop
 Inv-loop table numbers ends reach marks exits term group columns rows n stride ranks values keys gone by₀ codes₀ i₀ by codes i =
-    (i ≤ n) × (length by ≡ length by₀) × (length codes ≡ length codes₀)
-    × Named (beatsIn (termAt table term) columns rows group) n i by × Beyond n by
+    (i ≤ n) × (length by ≡ length by₀) × (length codes ≡ length codes₀) × NamedTo (beatsIn (termAt table term) columns rows group) n i by
 
 abbrev μ-loop : tie.MeasureT-loop
 μ-loop table numbers ends reach marks exits term group columns rows n stride ranks values keys gone by₀ codes₀ i₀ by codes i = n - i
@@ -24,14 +22,14 @@ abbrev μ-loop : tie.MeasureT-loop
 loop-holds : tie.Need-loop-holds Inv-loop μ-loop
 loop-holds c =
     let p = c .before .before .before .before .pre in
-    (omega arith, refl, refl, p .6, p .5)
+    (omega arith, refl, refl, to-start _ _ _ (p .6))
 
-name-or-skip-requires : tie.Need-name-or-skip-requires Inv-loop μ-loop
-name-or-skip-requires c κs =
+name-or-leave-requires : tie.Need-name-or-leave-requires Inv-loop μ-loop
+name-or-leave-requires c κs =
     let s = c .before .before .before in
     let p = s .before .before .before .before .before .pre in
     let v = s .loop .inv in
-    (p .0, search needs, p .1, omega arith, omega arith, p .4, v .4, v .3, p .7)
+    (p .0, search needs, p .1, omega arith, omega arith, p .4, p .5, v .3, p .7)
 
 add-i : tie.Need-add-i Inv-loop μ-loop
 add-i c = search needs
@@ -40,9 +38,7 @@ loop-less : tie.Need-loop-less Inv-loop μ-loop
 loop-less c = search needs
 
 loop-again : tie.Need-loop-again Inv-loop μ-loop
-loop-again c =
-    let e = c .before .before .before .before .name-or-skip .ensures in
-    (omega arith, omega arith, omega arith, e .0, e .1)
+loop-again c = (omega arith, omega arith, omega arith, c .before .before .before .before .name-or-leave .ensures)
 
 same-length : tie.Need-same-length Inv-loop μ-loop
 same-length c = search needs
@@ -54,16 +50,16 @@ returns : tie.Need-returns Inv-loop μ-loop
 returns c =
     let v = c .before .loop .inv in
     let q = le-antisymm (v .0) (c .loop-test .left) in
-    rw q at (v .3)
+    to-end _ _ _ (rw q at (v .3))
 
-pub name-spec : {M : Type 1} → statement M
-name-spec =
+pub by-rows-spec : {M : Type 1} → statement M
+by-rows-spec =
     tie.close
     (tie.spec
     Inv-loop
     μ-loop
     loop-holds
-    name-or-skip-requires
+    name-or-leave-requires
     add-i
     loop-less
     loop-again

@@ -1,0 +1,2 @@
+-- Which row is named for a row that is gone.
+pub mod Named

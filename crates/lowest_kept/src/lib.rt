@@ -1,0 +1,2 @@
+// Which row is named for a row that is gone, found for one such row after another.
+pub mod vetted;
