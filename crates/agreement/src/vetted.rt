@@ -1,8 +1,8 @@
 // Whether the entry of each dropped row is its witness: a row that holds its own number, is in its group, and is first
 // better in Compare's reply.
 use crate::given::number_given;
-use cells::vetted::group::in_group;
 use compare::compare;
+use groups::vetted::in_group;
 use model::QueryReply;
 ghost use mathlib.Core.Path.{_≡_};
 ghost use Prim.Native.Nat.{ℕ, _<_};

@@ -16,7 +16,8 @@ use Rattle.model.specs.Compare.{outcome}
 use Rattle.laws.specs.Bools.{on-or-off}
 use Rattle.laws.specs.Codes.{code, code-below}
 use Rattle.values.specs.Prepared.{NextTerm}
-use Rattle.exits.specs.Exits.{Exits, maskAt, bits}
+use Rattle.exit_masks.specs.Told.{bits}
+use Rattle.exit_parts.specs.Exits.{Exits, maskAt}
 use Rattle.exits.specs.Known.{Known}
 use Rattle.exits.proofs.Known.{known-none, known-silent, known-more, known-stop, known-all, known-on}
 use Rattle.lanes.specs.Wrote.{Wrote}

@@ -14,7 +14,7 @@ use Rattle.model.specs.Query.{rowAt}
 use Rattle.laws.specs.Codes.{code, joinedCode}
 use Rattle.laws.specs.Taken.{TakenTerm}
 use Rattle.values.specs.Prepared.{Numbers, RunEnds, Reached}
-use Rattle.exits.specs.Exits.{Exits}
+use Rattle.exit_parts.specs.Exits.{Exits}
 use Rattle.exits.specs.Known.{Known}
 use Rattle.cells.specs.Values.{Room, Valued}
 use Rattle.beneath.specs.Beneath.{Marked}

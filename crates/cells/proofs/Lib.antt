@@ -1,3 +1,2 @@
--- A number raised to a natural one; cells by block as loops fill them in.
-pub mod Raised
+-- Cells by block as loops fill them in.
 pub mod Filled

@@ -1,6 +1,4 @@
--- Two rows in one group, by the columns that they have; the cells of rows by block.
-pub mod Group
-pub mod Keys
+-- The cells of rows by block, and where they stand.
 pub mod Values
 pub mod Places
 pub mod Stretch

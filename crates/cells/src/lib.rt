@@ -1,2 +1,2 @@
-// The cells of rows: whether two rows are in one group, and all cells block by block (document 01, "Query").
+// The cells of rows, block by block.
 pub mod vetted;

@@ -13,7 +13,7 @@ use Rattle.values.specs.Prepared.{RunEnds, Reached}
 use Rattle.cells.specs.Values.{Room}
 use Rattle.beneath.specs.Beneath.{Marked}
 use Rattle.ranks.specs.Ranked.{Ranked}
-use Rattle.exits.specs.Exits.{Exits}
+use Rattle.exit_parts.specs.Exits.{Exits}
 use Rattle.ops.specs.Ops.{Ops}
 use Rattle.elimination.specs.Elimination.{Rounds, Beaten}
 use Rattle.elimination.specs.Beaten.{beaten-start}

@@ -1,8 +1,8 @@
 // The direct engine: rows are compared pair by pair, by ranks that are found once per query; a row that is gone is not
 // compared again, and a dropped row's witness comes from the list of kept rows.
 use beneath::vetted::beneath;
-use cells::vetted::keys::fill_keys;
 use exits::vetted::exits;
+use keys::vetted::fill_keys;
 use ops::vetted::ops;
 use pairwise::vetted::meetings::eliminate;
 use ranks::vetted::fill_ranks;

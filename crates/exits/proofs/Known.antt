@@ -14,9 +14,10 @@ use Rattle.model.specs.Compare.{outcome}
 use Rattle.laws.specs.Bools.{and-i, on-or-off}
 use Rattle.laws.specs.Search.{lt-suc-cases}
 use Rattle.laws.specs.Codes.{code, code-below}
-use Rattle.exits.specs.Exits.{toldCode, bits, within, holds, maskAt, tellsAt, Exits}
+use Rattle.exit_masks.specs.Told.{toldCode, bits, within, holds}
+use Rattle.exit_parts.specs.Exits.{maskAt, tellsAt, Exits}
 use Rattle.exits.specs.Known.{Known}
-use Rattle.exits.proofs.Bits.{implies, implied, none-holds, none-within, told-low, both-hold, both-low, left-bits, right-bits, stop-bits, all-bits, bits-low}
+use Rattle.exit_masks.proofs.Bits.{implies, implied, none-holds, none-within, told-low, both-hold, both-low, left-bits, right-bits, stop-bits, all-bits, bits-low}
 
 module _ {table : List ℕ} {term : ℕ} {exits : List ℕ} (e : Exits table term exits) (x y : Row) where
   abbrev o : ℕ

@@ -1,5 +1,2 @@
--- What the masks of an asked term tell, and how a compound's go over to its parts.
-pub mod Bits
-pub mod Masks
+-- What is known from what the masks tell.
 pub mod Known
-pub mod Parts

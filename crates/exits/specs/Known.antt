@@ -7,7 +7,8 @@ use Prim.Native.Nat.{ℕ, _<_}
 use Rattle.model.specs.Term.{termAt}
 use Rattle.model.specs.Better.{Row}
 use Rattle.laws.specs.Codes.{code}
-use Rattle.exits.specs.Exits.{bits, within, holds, tellsAt}
+use Rattle.exit_masks.specs.Told.{bits, within, holds}
+use Rattle.exit_parts.specs.Exits.{tellsAt}
 
 pub record Known (table : List ℕ) (term : ℕ) (exits : List ℕ) (x y : Row) (k known : ℕ) : Type 0 where
   pub few : known < 8

@@ -1,3 +1,2 @@
--- What the outcomes of records tell of the asked term, and what is known from those told.
-pub mod Exits
+-- What is known of the asked term from the outcomes of records.
 pub mod Known

@@ -14,8 +14,8 @@ use Rattle.laws.specs.Search.{lt-suc-cases}
 use Rattle.lanes.specs.Wrote.{Wrote}
 use Rattle.model.specs.Search.{anyBelow}
 use Rattle.laws.specs.Codes.{turnedCode}
-use Rattle.exits.specs.Exits.{toldCode, whollyCode}
-use Rattle.exits.proofs.Bits.{all-2}
+use Rattle.exit_masks.specs.Told.{toldCode, whollyCode}
+use Rattle.exit_masks.proofs.Bits.{all-2}
 use Rattle.known.specs.Lanes.{Told, Ended, addLane, pickCode, pickLane}
 
 -- Mask 1 tells the code itself.

@@ -6,7 +6,7 @@ use Prim.Native.Nat.{ℕ, _+_, _<_, _≤_}
 use lib.Bits.{bitOr}
 use lib.Dec.{eqb}
 use lib.ListN.{getD}
-use Rattle.exits.specs.Exits.{toldCode, bits}
+use Rattle.exit_masks.specs.Told.{toldCode, bits}
 
 -- Nothing is known of a lane that is lit.
 unfoldable pub startLane : List ℕ → ℕ → ℕ

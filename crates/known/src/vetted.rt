@@ -1,6 +1,6 @@
 // Loops over the 64 lanes of a block. They are no public calls: each asks that its buffers have room. `known` has for each lane
 // bits that the asked term's code has there, or 4 more and its whole code; from 3 on nothing can be added.
-use exits::vetted::told;
+use exit_masks::vetted::told;
 ghost use mathlib.Core.Path.{_≡_};
 ghost use mathlib.Core.Bool.{true, cond};
 ghost use Prim.Native.Nat.{_+_, _<_, _≤_};

@@ -13,14 +13,14 @@ use Rattle.model.specs.Bytes.{eqZ}
 use Rattle.model.specs.Better.{cell}
 use Rattle.model.specs.Query.{rowAt}
 use Rattle.laws.specs.Search.{none-i, none-e}
-use Rattle.cells.specs.Group.{differs, differs-none, differs-left, equal-in-below}
-use Rattle.cells.specs.Keys.{Keyed}
+use Rattle.groups.specs.Group.{differs, differs-none, differs-left, equal-in-below}
+use Rattle.keys.specs.Keys.{Keyed}
 use Rattle.cells.specs.Values.{Valued}
 use Rattle.cells.specs.Places.{row-length}
 use Rattle.lanes.specs.Wrote.{Wrote}
 use Rattle.lit_lanes.specs.Lit.{lit, free, pending, freeLane, pendingLane}
 use Rattle.lit_lanes.proofs.Stored.{any-step, lit-byte}
-use Rattle.live.specs.Live.{equalLane, keyLane}
+use Rattle.equal_lanes.specs.Equal.{equalLane, keyLane}
 use Rattle.live.specs.Alive.{Columned, Grouped, Alive, Above, Beyond}
 
 -- ---- lanes as they were written

@@ -1,3 +1,2 @@
 -- Laws that the proofs share.
-pub mod Stored
 pub mod Grouping

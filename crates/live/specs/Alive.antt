@@ -10,7 +10,7 @@ use Rattle.model.specs.Search.{anyBelow}
 use Rattle.model.specs.Bytes.{eqZ}
 use Rattle.model.specs.Better.{cell, equalIn}
 use Rattle.model.specs.Query.{rowAt}
-use Rattle.cells.specs.Group.{differs}
+use Rattle.groups.specs.Group.{differs}
 use Rattle.cells.specs.Values.{Room, Valued}
 use Rattle.lit_lanes.specs.Lit.{lit}
 

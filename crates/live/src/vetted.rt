@@ -1,16 +1,15 @@
 // Lanes of row i's group: lit lanes are put out where the row differs from row i in a column of the group. They are no public
 // calls: each asks that its buffers have room. `live` has 1 for a lane that is lit. `gone` has 0 for a row that is not gone. `by`
 // has the row that is named for a row, or 1024 for none yet.
+use equal_lanes::vetted::equal_lanes;
+use equal_lanes::vetted::key_lanes;
 use lit_lanes::vetted::any_lit;
 use lit_lanes::vetted::free_lanes;
 use lit_lanes::vetted::pending_lanes;
 ghost use mathlib.Core.Path.{_≡_};
-ghost use Prim.Native.Nat.{_+_, _*_, _≤_, _<_};
+ghost use Prim.Native.Nat.{_*_, _≤_, _<_};
 ghost use lib.ListN.{length};
-ghost use Rattle.cells.specs.Values.{Room, Valued};
-ghost use Rattle.lanes.specs.Wrote.{Wrote};
-ghost use Rattle.cells.specs.Keys.{Keyed};
-ghost use Rattle.live.specs.Live.{keyLane, equalLane};
+ghost use Rattle.keys.specs.Keys.{Keyed};
 ghost use Rattle.lit_lanes.specs.Lit.{free, pending};
 ghost use Rattle.live.specs.Alive.{Cells, Columned, Grouped, Alive, Above, Beyond};
 
@@ -80,18 +79,6 @@ fn group_lanes(
     }
 }
 
-// Lit where it was and the key is the one given.
-fn key_lanes(keys: &[u8; 1024], at: usize, key: u8, live: &mut [u8])
-    requires { ⌜ (at + 64 ≤ 1024) × (64 ≤ length (now live)) ⌝ }
-    ensures { λ _. ⌜ Wrote 0 (keyLane (now (live .entry)) key (now (keys .entry)) at) 0 64 (now (live .entry)) (now (live .exit)) ⌝ }
-{
-    let mut j = 0;
-    while j < 64 {
-        live[j] = ((live[j] == 1) & (key == keys[at + j])) as u8;
-        j += 1;
-    }
-}
-
 // Puts out the lanes that differ from row i in a column of the group.
 fn column_lanes(
     group: u8,
@@ -133,17 +120,5 @@ fn group_column(
     if left % 2 == 1 {
         let v = values[i / 64 * 512 + c * 64 + i % 64];
         equal_lanes(values, b * 512 + c * 64, v, live);
-    }
-}
-
-// Lit where it was and the value is v.
-fn equal_lanes(values: &[i32], at: usize, v: i32, live: &mut [u8])
-    requires { ⌜ (at + 64 ≤ length (now values)) × (64 ≤ length (now live)) ⌝ }
-    ensures { λ _. ⌜ Wrote 0 (equalLane (now (live .entry)) v (now (values .entry)) at) 0 64 (now (live .entry)) (now (live .exit)) ⌝ }
-{
-    let mut j = 0;
-    while j < 64 {
-        live[j] = ((live[j] == 1) & (v == values[at + j])) as u8;
-        j += 1;
     }
 }

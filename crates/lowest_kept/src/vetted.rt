@@ -12,7 +12,7 @@ ghost use Rattle.model.specs.Search.{findBelow};
 ghost use Rattle.model.specs.Term.{termAt};
 ghost use Rattle.model.specs.Query.{beatsIn};
 ghost use Rattle.elimination.specs.Elimination.{Settled};
-ghost use Rattle.cells.specs.Keys.{Keyed};
+ghost use Rattle.keys.specs.Keys.{Keyed};
 ghost use Rattle.lit_lanes.specs.Lit.{hit};
 ghost use Rattle.live.specs.Alive.{Above};
 ghost use Rattle.blocks.specs.Blocks.{Ready};

@@ -13,7 +13,7 @@ ghost use lib.ListN.{length, getD};
 ghost use Rattle.model.specs.Term.{termAt};
 ghost use Rattle.model.specs.Query.{beatsIn};
 ghost use Rattle.elimination.specs.Elimination.{Settled};
-ghost use Rattle.cells.specs.Keys.{Keyed};
+ghost use Rattle.keys.specs.Keys.{Keyed};
 ghost use Rattle.live.specs.Alive.{Above, Beyond};
 ghost use Rattle.blocks.specs.Blocks.{Ready};
 ghost use Rattle.lowest_kept.specs.Named.{Named};

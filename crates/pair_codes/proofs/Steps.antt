@@ -18,9 +18,10 @@ use Rattle.laws.specs.Search.{lt-suc-cases}
 use Rattle.laws.specs.Codes.{code}
 use Rattle.laws.specs.AcceptedTable.{accepted-table}
 use Rattle.values.specs.Prepared.{NextTerm}
-use Rattle.exits.specs.Exits.{Exits, tellsAt, toldCode, bits}
+use Rattle.exit_masks.specs.Told.{toldCode, bits}
+use Rattle.exit_parts.specs.Exits.{Exits, tellsAt}
 use Rattle.exits.specs.Known.{Known}
-use Rattle.exits.proofs.Bits.{none-within, bits-low}
+use Rattle.exit_masks.proofs.Bits.{none-within, bits-low}
 use Rattle.pair_codes.specs.Pairs.{Comparable, CodesBelow}
 
 -- None stands at first.

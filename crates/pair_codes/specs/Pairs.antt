@@ -17,7 +17,7 @@ use Rattle.values.specs.Prepared.{RunEnds, Reached}
 use Rattle.cells.specs.Values.{Room}
 use Rattle.beneath.specs.Beneath.{Marked}
 use Rattle.ranks.specs.Ranked.{Ranked}
-use Rattle.exits.specs.Exits.{Exits}
+use Rattle.exit_parts.specs.Exits.{Exits}
 use Rattle.ops.specs.Ops.{Ops}
 
 -- A term record of an accepted table with what is prepared of it, and a run of n rows with their ranks.

@@ -5,7 +5,7 @@ use crate::vetted::ranked::by_rank;
 use crate::vetted::ranked::explicit_code;
 use codes::prior_code;
 use codes::turned_code;
-use exits::vetted::told;
+use exit_masks::vetted::told;
 ghost use mathlib.Core.Path.{_≡_};
 ghost use Prim.Native.Nat.{_+_, _*_, _/_, _%_, _<_};
 ghost use lib.IntN.{pos};

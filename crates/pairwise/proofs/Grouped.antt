@@ -14,7 +14,7 @@ use Rattle.model.specs.Query.{rowAt, beatsIn}
 use Rattle.laws.specs.Bools.{off, and-l}
 use Rattle.laws.specs.Taken.{TakenTerm, taken-sound}
 use Rattle.laws.specs.Codes.{codeOf}
-use Rattle.cells.specs.Keys.{Keyed}
+use Rattle.keys.specs.Keys.{Keyed}
 use Rattle.elimination.specs.Beats.{beats-one, beats-two}
 use Rattle.pairwise.specs.Pairs.{outcomeIn, groupOutcome}
 

@@ -14,7 +14,7 @@ use Rattle.laws.specs.Rows.{beats-strict}
 use Rattle.laws.specs.Strict.{ordered}
 use Rattle.laws.specs.Taken.{TakenTerm, taken-sound}
 use Rattle.values.specs.Prepared.{Numbers, RunEnds, Reached}
-use Rattle.exits.specs.Exits.{Exits}
+use Rattle.exit_parts.specs.Exits.{Exits}
 use Rattle.cells.specs.Values.{Room, Valued}
 use Rattle.beneath.specs.Beneath.{Marked}
 use Rattle.ranks.specs.Ranked.{Ranked}

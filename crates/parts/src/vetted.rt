@@ -2,12 +2,12 @@
 // per query; then for a row and a block of 64 rows one code per row and record, compounds from their parts' codes; rows that
 // are beaten are gone; then the kept rows name the rows that they beat.
 use beneath::vetted::beneath;
-use cells::vetted::keys::fill_keys;
-use cells::vetted::values::fill_values;
+use cells::vetted::fill_values;
 use entries::vetted::first_names;
 use entries::vetted::none_gone;
 use entries::vetted::write_answers;
 use exits::vetted::exits;
+use keys::vetted::fill_keys;
 use naming::vetted::name;
 use ranks::vetted::fill_ranks;
 use rounds::vetted::meetings::eliminate;
@@ -22,7 +22,7 @@ ghost use Rattle.model.specs.Query.{beatsIn, rowCount};
 ghost use Rattle.laws.specs.Taken.{Taken};
 ghost use Rattle.elimination.specs.Elimination.{Settled};
 ghost use Rattle.elimination.specs.Firsts.{Firsts};
-ghost use Rattle.cells.specs.Keys.{Keyed};
+ghost use Rattle.keys.specs.Keys.{Keyed};
 ghost use Rattle.cells.specs.Values.{Room};
 ghost use Rattle.live.specs.Alive.{Above};
 ghost use Rattle.blocks.specs.Blocks.{Ready};

@@ -1,6 +1,6 @@
 // The ranks of m rows in one stretch: their cells stand `columns` apart from `from` on, the ranks go to the entries from `at` on.
 // No public calls: each asks what the calls of Query have shown before.
-use cells::vetted::values::copy_stretch;
+use cells::vetted::copy_stretch;
 use model::BaseTerm;
 use rank::vetted::around_rank;
 use rank::vetted::between_rank;

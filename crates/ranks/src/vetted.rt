@@ -1,6 +1,6 @@
 // The ranks of all rows under the marked base records, block by block: a block takes `stride` entries, 64 for each record.
 // No public calls: each asks what the calls of Query have shown before.
-use cells::vetted::values::block_rows;
+use cells::vetted::block_rows;
 use model::BaseTerm;
 use model::Record;
 use rank_stretches::vetted::fill_stretch;

@@ -7,7 +7,7 @@ ghost use Prim.Native.Nat.{_+_, _<_};
 ghost use lib.ListN.{length};
 ghost use Rattle.model.specs.Term.{termAt};
 ghost use Rattle.model.specs.Query.{beatsIn};
-ghost use Rattle.cells.specs.Keys.{Keyed};
+ghost use Rattle.keys.specs.Keys.{Keyed};
 ghost use Rattle.elimination.specs.Elimination.{Rounds, Turn, Met, Settled, Beaten};
 ghost use Rattle.pair_codes.specs.Pairs.{Comparable};
 ghost use Rattle.pairwise.specs.Pairs.{Buffers};

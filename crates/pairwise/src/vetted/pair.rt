@@ -1,6 +1,6 @@
 // Two rows of the run compared, if they are in one group; a row is handed to the comparison as a part of the run. `codes` has
 // room for a code of each record.
-use cells::vetted::group::in_group;
+use groups::vetted::in_group;
 use pair_codes::vetted::pair_code;
 ghost use mathlib.Core.Path.{_≡_};
 ghost use Prim.Native.Nat.{_<_};

@@ -13,7 +13,7 @@ ghost use Rattle.model.specs.Term.{termAt};
 ghost use Rattle.model.specs.Query.{beatsIn};
 ghost use Rattle.elimination.specs.Elimination.{Rounds, Turn, Met, Settled};
 ghost use Rattle.elimination.specs.Firsts.{Firsts};
-ghost use Rattle.cells.specs.Keys.{Keyed};
+ghost use Rattle.keys.specs.Keys.{Keyed};
 ghost use Rattle.live.specs.Alive.{Cells, Alive, Above};
 ghost use Rattle.blocks.specs.Blocks.{Ready};
 ghost use Rattle.rounds.specs.Rivals.{rival, LeftOut};

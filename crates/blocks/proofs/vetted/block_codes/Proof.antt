@@ -8,7 +8,7 @@ use native.Mathlib.Omega.{arith}
 use lib.ListN.{length}
 use borrow.Author.Needs.{needs}
 use Rattle.model.specs.Record.{recordAt, isTerm}
-use Rattle.exits.specs.Exits.{maskAt}
+use Rattle.exit_parts.specs.Exits.{maskAt}
 use Rattle.blocks.specs.Blocks.{Coded, KnownLanes}
 use Rattle.blocks.proofs.Coded.{coded-none, coded-unmarked, coded-next, term-below, first-term, next-term, next-is}
 use Rattle.blocks.proofs.Known.{lanes-none, lanes-silent, lanes-told, lanes-next, asked-ended, asked-all}

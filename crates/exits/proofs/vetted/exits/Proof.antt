@@ -5,8 +5,8 @@ use native.Mathlib.Omega.{arith}
 use lib.ListN.{replicate}
 use denote.Ref.{now}
 use borrow.Author.Needs.{needs}
-use Rattle.exits.specs.Exits.{Exits}
-use Rattle.exits.proofs.Parts.{term-low, exits-start, exits-more, parts-in}
+use Rattle.exit_parts.specs.Exits.{Exits}
+use Rattle.exit_parts.proofs.Parts.{term-low, exits-start, exits-more, parts-in}
 use Rattle.exits.proofs.vetted.exits.Statement.{statement}
 use Rattle.exits.proofs.vetted.exits.Tie as tie
 

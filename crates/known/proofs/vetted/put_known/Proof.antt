@@ -9,7 +9,7 @@ use lib.ListN.{length, length-set, getD}
 use borrow.Author.Needs.{needs}
 use Rattle.lanes.specs.Wrote.{Wrote}
 use Rattle.lanes.specs.Writes.{wrote-none, wrote-store}
-use Rattle.exits.specs.Exits.{bits}
+use Rattle.exit_masks.specs.Told.{bits}
 use Rattle.known.specs.Lanes.{bitsLane}
 use Rattle.known.proofs.vetted.put_known.Statement.{statement}
 use Rattle.known.proofs.vetted.put_known.Tie as tie

@@ -5,7 +5,7 @@ use native.Mathlib.Omega.{arith}
 use native.Mathlib.Nat.{le-antisymm}
 use lib.ListN.{length}
 use borrow.Author.Needs.{needs}
-use Rattle.cells.specs.Group.{left-none, left-more}
+use Rattle.groups.specs.Group.{left-none, left-more}
 use Rattle.live.specs.Alive.{Grouped}
 use Rattle.live.proofs.Grouping.{grouped-none, grouped-more}
 use Rattle.live.proofs.vetted.column_lanes.Statement.{statement}

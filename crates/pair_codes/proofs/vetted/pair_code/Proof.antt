@@ -11,7 +11,8 @@ use Rattle.model.specs.Record.{recordAt, isTerm}
 use Rattle.model.specs.Term.{termAt}
 use Rattle.model.specs.Compare.{outcome}
 use Rattle.laws.specs.Codes.{code-below}
-use Rattle.exits.specs.Exits.{maskAt, bits}
+use Rattle.exit_masks.specs.Told.{bits}
+use Rattle.exit_parts.specs.Exits.{maskAt}
 use Rattle.exits.specs.Known.{Known}
 use Rattle.exits.proofs.Known.{known-none, known-silent, known-more, known-stop, known-all}
 use Rattle.pair_codes.proofs.Coded.{term-below}

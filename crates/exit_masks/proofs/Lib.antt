@@ -1,0 +1,2 @@
+-- Laws of codes and masks, each computed over all of them.
+pub mod Bits

@@ -1,0 +1,20 @@
+-- `exit_masks::vetted::wholly` meets its contract. Assumes nothing.
+use borrow.Author.Needs.{needs}
+use borrow.Author.Tests.{eq-eqb, ne-eqb}
+use Rattle.exit_masks.specs.Told.{whollyCode}
+use Rattle.exit_masks.proofs.vetted.wholly.Statement.{statement}
+use Rattle.exit_masks.proofs.vetted.wholly.Tie as tie
+
+returns : tie.Need-returns
+unfolding whollyCode
+returns c = rw (eq-eqb _ _ (c .if1 .taken))
+
+add-result : tie.Need-add-result
+add-result c = search needs
+
+returns-2 : tie.Need-returns-2
+unfolding whollyCode
+returns-2 c = rw (ne-eqb _ _ (c .if1 .left))
+
+pub wholly-spec : {M : Type 1} → statement M
+wholly-spec = tie.close (tie.spec returns add-result returns-2)

@@ -1,0 +1,2 @@
+// What the outcome of a record tells of the asked term's.
+pub mod vetted;

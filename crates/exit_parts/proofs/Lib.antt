@@ -1,0 +1,3 @@
+-- What the masks of an asked term tell, and how a compound's go over to its parts.
+pub mod Masks
+pub mod Parts

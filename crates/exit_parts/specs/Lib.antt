@@ -1,0 +1,2 @@
+-- The masks of the records beneath an asked term.
+pub mod Exits

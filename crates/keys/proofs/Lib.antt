@@ -1,0 +1,2 @@
+-- A number raised to a natural one.
+pub mod Raised

@@ -1,0 +1,2 @@
+-- The key of a row.
+pub mod Keys

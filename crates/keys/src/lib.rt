@@ -1,0 +1,2 @@
+// Keys that tell the groups of rows apart.
+pub mod vetted;
