@@ -3,7 +3,7 @@
 use cells::vetted::keys::fill_keys;
 use exits::vetted::exits;
 use ops::vetted::ops;
-use pairwise::vetted::meetings::eliminate;
+use pairwise::vetted::eliminate;
 use ranks::vetted::beneath::beneath;
 use ranks::vetted::fill::fill_ranks;
 use values::vetted::prepared::closures;
@@ -17,7 +17,7 @@ ghost use Rattle.model.specs.Term.{termAt};
 ghost use Rattle.model.specs.Query.{beatsIn, rowCount};
 ghost use Rattle.laws.specs.Taken.{Taken};
 ghost use Rattle.cells.specs.Values.{Room};
-ghost use Rattle.pair_codes.specs.Pairs.{Comparable};
+ghost use Rattle.pair_records.specs.Pairs.{Comparable};
 ghost use Rattle.selection.specs.Selected.{AskedRows, StrideFor, Selected};
 
 // Writes the entries. Returns how many rows are kept.

@@ -21,7 +21,7 @@ use Rattle.values.specs.Prepared.{NextTerm}
 use Rattle.exits.specs.Exits.{Exits, tellsAt, toldCode, bits}
 use Rattle.exits.specs.Known.{Known}
 use Rattle.exits.proofs.Bits.{none-within, bits-low}
-use Rattle.pair_codes.specs.Pairs.{Comparable, CodesBelow}
+use Rattle.pair_records.specs.Pairs.{Comparable, CodesBelow}
 
 -- None stands at first.
 pub codes-none : (table : List ℕ) (marks : List Bool) (x y : Row) (codes : List ℕ) → CodesBelow table marks x y 0 codes

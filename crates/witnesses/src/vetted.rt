@@ -1,7 +1,7 @@
 // The answers: a kept row's own number, and for a dropped row the first of the kept rows that is better. No public calls: each
 // asks what was found before. `gone` has 0 for a row that is not gone, and `by` a row that beats one that is gone; `kept` lists
 // the kept rows in order.
-use pairwise::vetted::pair::beats;
+use grouped_pairs::vetted::beats;
 ghost use mathlib.Core.Path.{_≡_};
 ghost use Prim.Native.Nat.{_<_, _≤_};
 ghost use mathlib.Core.Bool.{true};
@@ -11,7 +11,7 @@ ghost use Rattle.model.specs.Search.{countBelow, fill};
 ghost use Rattle.model.specs.Term.{termAt};
 ghost use Rattle.model.specs.Query.{kept, keptCount, answer, beatsIn};
 ghost use Rattle.elimination.specs.Elimination.{Beaten};
-ghost use Rattle.pair_codes.specs.Pairs.{Comparable};
+ghost use Rattle.pair_records.specs.Pairs.{Comparable};
 ghost use Rattle.witnesses.specs.Kept.{Listed, KeptRows, lowestKept};
 
 // Lists the rows that are not gone, in order. Returns how many there are.
