@@ -2,6 +2,7 @@
 // compared again, and a dropped row's witness comes from the list of kept rows.
 use cells::vetted::keys::fill_keys;
 use exits::vetted::exits;
+use kept_list::vetted::list_kept;
 use ops::vetted::ops;
 use pairwise::vetted::eliminate;
 use ranks::vetted::beneath::beneath;
@@ -9,7 +10,6 @@ use ranks::vetted::fill::fill_ranks;
 use values::vetted::prepared::closures;
 use values::vetted::prepared::numbers;
 use values::vetted::prepared::run_ends;
-use witnesses::vetted::list_kept;
 use witnesses::vetted::write_answers;
 ghost use Prim.Native.Nat.{_≤_};
 ghost use lib.ListN.{length};

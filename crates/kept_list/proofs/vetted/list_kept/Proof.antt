@@ -1,4 +1,4 @@
--- `witnesses::vetted::list_kept` meets its contract. Assumes nothing.
+-- `kept_list::vetted::list_kept` meets its contract. Assumes nothing.
 use mathlib.Core.Path.{_≡_, refl, sym, ap, _∙_}
 use mathlib.Core.Logic.{⊎-elim}
 use Prim.Native.Nat.{ℕ, _+_, _-_, _≤_, _<_}
@@ -9,10 +9,10 @@ use lib.ListN.{length, getD, length-set}
 use borrow.Author.Tests.{eq-eqb, ne-eqb}
 use borrow.Author.Needs.{needs}
 use Rattle.model.specs.Search.{countBelow}
-use Rattle.witnesses.specs.Kept.{Listed}
-use Rattle.witnesses.specs.Listing.{count-start, count-pass, count-fail, listed-start, listed-skip, listed-store}
-use Rattle.witnesses.proofs.vetted.list_kept.Statement.{statement}
-use Rattle.witnesses.proofs.vetted.list_kept.Tie as tie
+use Rattle.kept_list.specs.Kept.{Listed}
+use Rattle.kept_list.specs.Listing.{count-start, count-pass, count-fail, listed-start, listed-skip, listed-store}
+use Rattle.kept_list.proofs.vetted.list_kept.Statement.{statement}
+use Rattle.kept_list.proofs.vetted.list_kept.Tie as tie
 
 abbrev Inv-loop : tie.InvT-loop
 Inv-loop n gone kept₀ m₀ i₀ kept m i =

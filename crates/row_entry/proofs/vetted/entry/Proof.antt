@@ -1,4 +1,4 @@
--- `witnesses::vetted::entry` meets its contract. Assumes nothing.
+-- `row_entry::vetted::entry` meets its contract. Assumes nothing.
 use mathlib.Core.Path.{sym, _∙_}
 use native.Mathlib.Omega.{arith}
 use lib.Dec.{eqb, ltb}
@@ -7,10 +7,10 @@ use denote.Ref.{now}
 use borrow.Author.Tests.{eq-eqb, ne-eqb, eqb-true, ltb-true}
 use Rattle.laws.specs.Bools.{and-l, and-r}
 use Rattle.laws.specs.Answers.{answer-kept}
-use Rattle.witnesses.proofs.Sought.{answer-lowest, by-lowest}
+use Rattle.row_entry.proofs.Sought.{answer-lowest, by-lowest}
 use borrow.Author.Needs.{needs}
-use Rattle.witnesses.proofs.vetted.entry.Statement.{statement}
-use Rattle.witnesses.proofs.vetted.entry.Tie as tie
+use Rattle.row_entry.proofs.vetted.entry.Statement.{statement}
+use Rattle.row_entry.proofs.vetted.entry.Tie as tie
 
 shared-slice-read-if1 : tie.Need-shared-slice-read-if1
 shared-slice-read-if1 c = search needs

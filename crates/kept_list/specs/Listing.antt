@@ -17,7 +17,7 @@ use Rattle.laws.specs.Order.{Rel}
 use Rattle.elimination.specs.Cases.{below-or-not}
 use Rattle.elimination.specs.Elimination.{Settled}
 use Rattle.elimination.specs.Rounds.{count-kept}
-use Rattle.witnesses.specs.Kept.{Listed, KeptRows}
+use Rattle.kept_list.specs.Kept.{Listed, KeptRows}
 
 module _ (pass : ℕ → Bool) where
   -- How many pass: none below 0,

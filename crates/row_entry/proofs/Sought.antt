@@ -14,8 +14,8 @@ use Rattle.laws.specs.Search.{find-is, find-none}
 use Rattle.laws.specs.Order.{Rel}
 use Rattle.elimination.specs.Cases.{below-or-not}
 use Rattle.elimination.specs.Elimination.{Settled, Beaten}
-use Rattle.witnesses.specs.Kept.{Listed, lowestKept}
-use Rattle.witnesses.specs.Listing.{count-less}
+use Rattle.kept_list.specs.Kept.{Listed, lowestKept}
+use Rattle.kept_list.specs.Listing.{count-less}
 
 -- None of the first z kept rows is better than row i.
 pub record Sought (beats : Rel ℕ) (n i z : ℕ) : Type 0 where

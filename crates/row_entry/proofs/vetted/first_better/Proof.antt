@@ -1,4 +1,4 @@
--- `witnesses::vetted::first_better` meets its contract. Assumes nothing.
+-- `row_entry::vetted::first_better` meets its contract. Assumes nothing.
 use mathlib.Core.Path.{_≡_, _∙_}
 use Prim.Native.Nat.{_-_, _≤_}
 use native.Mathlib.Nat.{le-antisymm}
@@ -7,9 +7,9 @@ use lib.ListN.{length}
 use borrow.Author.Needs.{needs}
 use Rattle.model.specs.Term.{termAt}
 use Rattle.model.specs.Query.{beatsIn}
-use Rattle.witnesses.proofs.Sought.{Sought, listed-row, sought-start, sought-more, sought-hit, sought-by, sought-end}
-use Rattle.witnesses.proofs.vetted.first_better.Statement.{statement}
-use Rattle.witnesses.proofs.vetted.first_better.Tie as tie
+use Rattle.row_entry.proofs.Sought.{Sought, listed-row, sought-start, sought-more, sought-hit, sought-by, sought-end}
+use Rattle.row_entry.proofs.vetted.first_better.Statement.{statement}
+use Rattle.row_entry.proofs.vetted.first_better.Tie as tie
 
 abbrev Inv-loop : tie.InvT-loop
 Inv-loop table ops ends reach marks exits term group columns rows n stride ranks list m i by codes₀ z₀ codes z =
