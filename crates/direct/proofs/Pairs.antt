@@ -18,7 +18,7 @@ use Rattle.ops.specs.Ops.{Ops}
 use Rattle.elimination.specs.Elimination.{Rounds, Beaten}
 use Rattle.elimination.specs.Beaten.{beaten-start}
 use Rattle.elimination.specs.Rounds.{rounds-start}
-use Rattle.pair_codes.specs.Pairs.{Comparable}
+use Rattle.pair_records.specs.Pairs.{Comparable}
 use Rattle.selection.specs.Selected.{AskedRows, StrideFor}
 
 -- A query's rows can be compared.

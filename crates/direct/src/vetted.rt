@@ -2,14 +2,14 @@
 // compared again, and a dropped row's witness comes from the list of kept rows.
 use beneath::vetted::beneath;
 use exits::vetted::exits;
+use kept_list::vetted::list_kept;
 use keys::vetted::fill_keys;
 use ops::vetted::ops;
-use pairwise::vetted::meetings::eliminate;
+use pairwise::vetted::eliminate;
 use ranks::vetted::fill_ranks;
 use values::vetted::prepared::closures;
 use values::vetted::prepared::numbers;
 use values::vetted::prepared::run_ends;
-use witnesses::vetted::list_kept;
 use witnesses::vetted::write_answers;
 ghost use Prim.Native.Nat.{_≤_};
 ghost use lib.ListN.{length};
@@ -17,7 +17,7 @@ ghost use Rattle.model.specs.Term.{termAt};
 ghost use Rattle.model.specs.Query.{beatsIn, rowCount};
 ghost use Rattle.laws.specs.Taken.{Taken};
 ghost use Rattle.cells.specs.Values.{Room};
-ghost use Rattle.pair_codes.specs.Pairs.{Comparable};
+ghost use Rattle.pair_records.specs.Pairs.{Comparable};
 ghost use Rattle.selection.specs.Selected.{AskedRows, StrideFor, Selected};
 
 // Writes the entries. Returns how many rows are kept. A block of 64 rows takes 64 ranks for each record up to the term. Few rows

@@ -1,3 +1,2 @@
--- That the codes of the records beneath a term are those of their terms, and the way from one term to the next.
-pub mod Coded
+-- The way from one term to the next.
 pub mod Steps

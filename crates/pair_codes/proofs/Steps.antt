@@ -22,7 +22,7 @@ use Rattle.exit_masks.specs.Told.{toldCode, bits}
 use Rattle.exit_parts.specs.Exits.{Exits, tellsAt}
 use Rattle.exits.specs.Known.{Known}
 use Rattle.exit_masks.proofs.Bits.{none-within, bits-low}
-use Rattle.pair_codes.specs.Pairs.{Comparable, CodesBelow}
+use Rattle.pair_records.specs.Pairs.{Comparable, CodesBelow}
 
 -- None stands at first.
 pub codes-none : (table : List ℕ) (marks : List Bool) (x y : Row) (codes : List ℕ) → CodesBelow table marks x y 0 codes

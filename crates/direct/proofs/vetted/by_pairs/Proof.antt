@@ -3,7 +3,7 @@ use mathlib.Core.Path.{refl, _∙_}
 use native.Mathlib.Omega.{arith}
 use borrow.Author.Needs.{needs}
 use Rattle.elimination.specs.Rounds.{count-kept}
-use Rattle.witnesses.specs.Listing.{kept-rows}
+use Rattle.kept_list.specs.Listing.{kept-rows}
 use Rattle.selection.specs.Taken.{few-columns}
 use Rattle.direct.proofs.Pairs.{none-gone, none-beaten, count-small}
 use Rattle.direct.proofs.vetted.by_pairs.Statement.{statement}

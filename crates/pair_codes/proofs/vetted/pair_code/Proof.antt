@@ -15,9 +15,9 @@ use Rattle.exit_masks.specs.Told.{bits}
 use Rattle.exit_parts.specs.Exits.{maskAt}
 use Rattle.exits.specs.Known.{Known}
 use Rattle.exits.proofs.Known.{known-none, known-silent, known-more, known-stop, known-all}
-use Rattle.pair_codes.proofs.Coded.{term-below}
+use Rattle.pair_records.proofs.Coded.{term-below}
 use Rattle.pair_codes.proofs.Steps.{codes-none, codes-unmarked, codes-stored, known-next, first-term, next-term, next-is}
-use Rattle.pair_codes.specs.Pairs.{CodesBelow}
+use Rattle.pair_records.specs.Pairs.{CodesBelow}
 use borrow.Author.Needs.{needs}
 use Rattle.pair_codes.proofs.vetted.pair_code.Statement.{statement}
 use Rattle.pair_codes.proofs.vetted.pair_code.Tie as tie

@@ -1,0 +1,2 @@
+// The list of the kept rows.
+pub mod vetted;

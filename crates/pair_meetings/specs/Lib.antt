@@ -1,0 +1,2 @@
+-- What the direct engine keeps while rows meet.
+pub mod Buffers

@@ -1,0 +1,2 @@
+// Two rows of a run meet.
+pub mod vetted;

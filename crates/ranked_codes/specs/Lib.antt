@@ -1,0 +1,2 @@
+-- Two values and their ranks.
+pub mod Ranks
