@@ -4,7 +4,8 @@ use mathlib.Core.Bool.{Bool, _&&_, _||_}
 use mathlib.Core.List.{List}
 use Prim.Native.Nat.{ℕ, _+_, _<_, _≤_}
 use lib.Dec.{eqb}
-use Rattle.model.specs.declared.Record.{Record}
+use Rattle.model.specs.declared.{Record.Record, Value.Value}
+use Rattle.model.specs.Bytes.{eqZ}
 use Rattle.model.specs.Search.{anyIn}
 use Rattle.model.specs.Record.{kindAt, pAt, recordAt}
 use Rattle.model.specs.Check.{clash, closesCycle}
@@ -22,6 +23,10 @@ pub record Values (table : List ℕ) (j k : ℕ) : Type 0 where
 unfoldable pub clashIn : List ℕ → ℕ → ℕ → Bool
 clashIn table j k =
     (eqb (kindAt table j) 7 || eqb (kindAt table j) 8) && anyIn (valuesBetween table j k) (clash (valueAt table k))
+
+-- Edge b begins where edge a ends.
+unfoldable pub follows : Value → Value → Bool
+follows a b = eqZ (a .v) (b .u)
 
 -- 11 LOOP, of value record k whose term is record j.
 unfoldable pub loopIn : List ℕ → ℕ → ℕ → Bool

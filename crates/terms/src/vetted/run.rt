@@ -4,6 +4,7 @@ use records::record::kind_at;
 use records::record::p_at;
 use records::record::u_at;
 use records::record::u_word;
+use records::record::v_at;
 use records::record::v_word;
 ghost use mathlib.Core.Path.{_≡_};
 ghost use Prim.Native.Nat.{_≤_, _<_, _+_};
@@ -12,7 +13,7 @@ ghost use Rattle.model.specs.Check.{clash, closesCycle};
 ghost use Rattle.laws.specs.Runs.{valuesBetween};
 ghost use Rattle.records.specs.Fields.{valueAt};
 ghost use Rattle.terms.specs.Run.{Values};
-ghost use Rattle.terms.specs.Run.{clashIn, loopIn};
+ghost use Rattle.terms.specs.Run.{clashIn, follows, loopIn};
 
 // 10 CLASH: POS/NEG or POS/POS value standing earlier in its term's run under the other role.
 pub fn fails_clash(table: &[u8], j: u8, k: u8) -> bool
@@ -57,8 +58,40 @@ fn clash_with(table: &[u8], k: u8, i: u8) -> bool
     (u_at(table, k) == u_at(table, i)) & (p_at(table, k) != p_at(table, i))
 }
 
-// Whether the edge in record k closes a cycle with itself or the edges between records j and k.
+// Whether the edge in record k closes a cycle with itself or the edges between records j and k. The closure is looked at only
+// where one of these begins at the edge's end: no path begins there else.
 fn closes_cycle(table: &[u8], j: u8, k: u8) -> bool
+    requires { ⌜ Values (now table) j k × (k ≤ j + 16) × (k < 128) ⌝ }
+    ensures { λ r. ⌜ r ≡ closesCycle (valuesBetween (now (table .entry)) j k) (valueAt (now (table .entry)) k) ⌝ }
+{
+    if goes_on(table, j, k) {
+        return closes_by_path(table, j, k);
+    }
+    u_word(table, k) == v_word(table, k)
+}
+
+// Whether one of the edges between records j and k begins where the edge in record k ends.
+fn goes_on(table: &[u8], j: u8, k: u8) -> bool
+    requires { ⌜ Values (now table) j k ⌝ }
+    ensures { λ r. ⌜ r ≡ anyIn (valuesBetween (now (table .entry)) j k) (follows (valueAt (now (table .entry)) k)) ⌝ }
+{
+    let mut found = false;
+    let mut i = j + 1;
+    while i < k {
+        found = goes_on_with(table, k, i) | found;
+        i += 1;
+    }
+    found
+}
+
+fn goes_on_with(table: &[u8], k: u8, i: u8) -> bool
+    ensures { λ r. ⌜ r ≡ follows (valueAt (now (table .entry)) k) (valueAt (now (table .entry)) i) ⌝ }
+{
+    v_at(table, k) == u_at(table, i)
+}
+
+// The same, by the closure of these edges.
+fn closes_by_path(table: &[u8], j: u8, k: u8) -> bool
     requires { ⌜ Values (now table) j k × (k ≤ j + 16) × (k < 128) ⌝ }
     ensures { λ r. ⌜ r ≡ closesCycle (valuesBetween (now (table .entry)) j k) (valueAt (now (table .entry)) k) ⌝ }
 {
