@@ -1,2 +1,2 @@
-// Elimination and naming over blocks of 64 rows.
+// Elimination over blocks of 64 rows.
 pub mod vetted;
