@@ -15,7 +15,7 @@ use Rattle.model.specs.Record.{kindAt, pAt, qAt, uAt, vAt, recordOf, recordAt, 
 use Rattle.model.specs.Term.{columnsOf}
 use Rattle.model.specs.Replies.{refusal}
 use Rattle.model.specs.Check.{refuseIf, _then_, judge, failsKind, failsFiller, failsReused, failsColumn, failsPart}
-use Rattle.model.specs.Check.{failsStray, failsCrowd, failsClash, failsLoop, failsApart, columnsBefore}
+use Rattle.model.specs.Check.{failsStray, failsCrowd, failsClash, failsLoop, failsBounds, failsApart, columnsBefore}
 use Rattle.laws.specs.Bools.{and-l}
 use Rattle.laws.specs.Verdicts.{refuse-passed, then-passed}
 use Rattle.laws.specs.Accepted.{Judged, judged-below}
@@ -28,6 +28,7 @@ use Rattle.records.proofs.ByKind.{value-of}
 use Rattle.terms.specs.Run.{Values, clashIn, loopIn}
 use Rattle.columns.specs.Columns.{maskBelow, Narrow}
 use Rattle.columns.proofs.MaskLoop.{masks-columns}
+use Rattle.passing.specs.Passing.{Cleared}
 use Rattle.judging.specs.Judging.{refuseOr, judgeFields, judgeRun, judgeShape, Fielded, ValueFielded}
 
 -- ---- chains of rules
@@ -46,10 +47,21 @@ module _ (table : List ℕ) (columns k : ℕ) where
   unfolding judgeFields
   fields-next next = sym (simp then-assoc)
 
+  -- None of 3 to 8 holds: the chain passes.
+  pub fields-cleared : Cleared table columns k → judgeFields table columns k Verdict.Passed ≡ Verdict.Passed
+  unfolding judgeFields
+  fields-cleared c = rw (c .kind, c .filler, c .column, c .part, c .reused, c .stray)
+
   -- Record k is judged by 3 to 8, then 9 to 11, then 12 and 13.
   pub judge-steps : judge table columns k ≡ judgeFields table columns k (judgeRun table k (judgeShape table k))
   unfolding judge judgeFields judgeRun judgeShape
   judge-steps = refl
+
+  -- So the verdict of 3 to 8 goes first, then that of 9 to 13.
+  pub judge-after : (first : Verdict) → judgeFields table columns k Verdict.Passed ≡ first
+      → judge table columns k ≡ (first then judgeRun table k (judgeShape table k))
+  judge-after first e =
+      judge-steps ∙ fields-next (judgeRun table k (judgeShape table k)) ∙ ap (λ (v : Verdict). v then judgeRun table k (judgeShape table k)) e
 
 both-hold : (a b : Bool) → (not a || (not b || false)) ≡ false → (a ≡ true) × (b ≡ true)
 both-hold true true e = (refl, refl)
@@ -123,6 +135,11 @@ module _ (table : List ℕ) (columns k : ℕ) (f : Fielded table columns k) wher
 pub apart-none : (table : List ℕ) (k : ℕ) → eqb (kindAt table k) 18 ≡ false → failsApart table k ≡ false
 unfolding failsApart
 apart-none table k e = rw e
+
+-- 12 and 13 do not hold of a record that is neither BETWEEN nor BOTH.
+pub shape-none : (table : List ℕ) (k : ℕ) → eqb (kindAt table k) 4 ≡ false → eqb (kindAt table k) 18 ≡ false → judgeShape table k ≡ Verdict.Passed
+unfolding judgeShape failsBounds
+shape-none table k a b = rw (a, apart-none table k b)
 
 -- ---- values
 

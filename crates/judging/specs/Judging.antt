@@ -8,6 +8,7 @@ use Rattle.model.specs.Record.{kindAt, recordAt}
 use Rattle.model.specs.Replies.{refusal}
 use Rattle.model.specs.Check.{refuseIf, _then_, eachBelow, judge, failsKind, failsFiller, failsColumn, failsPart}
 use Rattle.model.specs.Check.{failsReused, failsStray, failsCrowd, failsClash, failsLoop, failsBounds, failsApart}
+use Rattle.passing.specs.Passing.{Met}
 
 -- One rule, then the verdict of the rules after it.
 abbrev pub refuseOr : Bool → Refusal → Verdict → Verdict
@@ -39,6 +40,11 @@ pub record Reached (table : List ℕ) (columns k : ℕ) : Type 0 where
   pub few : k < 128
   pub narrow : columns ≤ 8
   pub passed : eachBelow k (judge table columns) ≡ Verdict.Passed
+
+-- It comes with what the check carries up to it.
+pub record Brought (table : List ℕ) (columns k near : ℕ) (free : List Bool) : Type 0 where
+  pub reached : Reached table columns k
+  pub met : Met table k near free
 
 -- It passed 3 to 8 too.
 pub record Fielded (table : List ℕ) (columns k : ℕ) : Type 0 where

@@ -5,11 +5,11 @@ use filler::fails_filler;
 use model::MOST_VALUES;
 use model::Refusal;
 use model::Verdict;
+use passing::vetted::passes_fields;
 use records::record::kind_at;
 use records::record::p_at;
 use records::record::q_at;
 use records::record::record_at;
-use records::values::nearest_term;
 use rules::fails_bounds;
 use rules::fails_column;
 use rules::fails_kind;
@@ -20,18 +20,30 @@ use terms::vetted::run::fails_clash;
 use terms::vetted::run::fails_loop;
 ghost use mathlib.Core.Path.{_≡_};
 ghost use Rattle.model.specs.declared.Verdict.the-variants.{Passed};
+ghost use Rattle.model.specs.Record.{nearestTerm};
 ghost use Rattle.model.specs.Check.{judge, failsApart};
-ghost use Rattle.judging.specs.Judging.{refuseOr, judgeFields, judgeRun, judgeShape, Reached, Fielded, ValueFielded};
+ghost use Rattle.judging.specs.Judging.{refuseOr, judgeFields, judgeRun, judgeShape, Reached, Brought, Fielded, ValueFielded};
 
-// Record k, where every record below it passed.
-pub fn judge_record(table: &[u8], columns: u8, k: u8) -> Verdict
-    requires { ⌜ Reached (now table) columns k ⌝ }
+// Record k, where every record below it passed; `near` and `free` are what the check carries up to it.
+pub fn judge_record(table: &[u8], columns: u8, k: u8, near: u8, free: &[bool; 256]) -> Verdict
+    requires { ⌜ Brought (now table) columns k near (now free) ⌝ }
+    ensures { λ r. ⌜ r ≡ judge (now (table .entry)) columns k ⌝ }
+{
+    if passes_fields(table, columns, k, near, free) {
+        return judge_rest(table, columns, k, near);
+    }
+    judge_by_rules(table, columns, k, near)
+}
+
+// The same rule by rule, which says which of 3 to 8 refuses it.
+fn judge_by_rules(table: &[u8], columns: u8, k: u8, near: u8) -> Verdict
+    requires { ⌜ Reached (now table) columns k × (near ≡ nearestTerm (now table) k) ⌝ }
     ensures { λ r. ⌜ r ≡ judge (now (table .entry)) columns k ⌝ }
 {
     let first = judge_fields(table, columns, k);
     match first {
         Verdict::Refused(_) => first,
-        Verdict::Passed => judge_rest(table, columns, k),
+        Verdict::Passed => judge_rest(table, columns, k, near),
     }
 }
 
@@ -48,29 +60,38 @@ fn judge_fields(table: &[u8], columns: u8, k: u8) -> Verdict
     refuse_or(fails_kind(r), Refusal::Kind(k), v)
 }
 
-// 9 to 13.
-fn judge_rest(table: &[u8], columns: u8, k: u8) -> Verdict
-    requires { ⌜ Fielded (now table) columns k ⌝ }
+// 9 to 13: 9 to 11 are for values, 12 for BETWEEN (kind 4) and 13 for BOTH (kind 18).
+fn judge_rest(table: &[u8], columns: u8, k: u8, near: u8) -> Verdict
+    requires { ⌜ Fielded (now table) columns k × (near ≡ nearestTerm (now table) k) ⌝ }
     ensures { λ r. ⌜ r ≡ judgeRun (now (table .entry)) k (judgeShape (now (table .entry)) k) ⌝ }
 {
-    let shape = judge_shape(table, columns, k);
-    if kind_at(table, k) == 0 {
-        return judge_run(table, columns, k, shape);
+    let kind = kind_at(table, k);
+    if kind == 0 {
+        return judge_run(table, columns, k, near);
     }
-    shape
+    if kind == 4 {
+        return judge_shape(table, columns, k);
+    }
+    if kind == 18 {
+        return judge_shape(table, columns, k);
+    }
+    Verdict::Passed
 }
 
-// 9 to 11, then the rest. LOOP looks at no more than 16 edges, so that CROWD goes first.
-fn judge_run(table: &[u8], columns: u8, k: u8, rest: Verdict) -> Verdict
-    requires { ⌜ ValueFielded (now table) columns k ⌝ }
-    ensures { λ r. ⌜ r ≡ judgeRun (now (table .entry)) k rest ⌝ }
+// 9 to 11, of a value of term `near`. LOOP looks at no more than 16 edges, so that CROWD goes first.
+fn judge_run(table: &[u8], columns: u8, k: u8, near: u8) -> Verdict
+    requires { ⌜ ValueFielded (now table) columns k × (near ≡ nearestTerm (now table) k) ⌝ }
+    ensures { λ r. ⌜ r ≡ judgeRun (now (table .entry)) k Passed ⌝ }
 {
-    let j = nearest_term(table, k);
-    if MOST_VALUES < (k - j) as usize {
+    if MOST_VALUES < (k - near) as usize {
         return Verdict::Refused(Refusal::Crowd(k));
     }
-    let v = refuse_or(fails_loop(table, j, k), Refusal::Loop(k), rest);
-    refuse_or(fails_clash(table, j, k), Refusal::Clash(k), v)
+    let v = refuse_or(
+        fails_loop(table, near, k),
+        Refusal::Loop(k),
+        Verdict::Passed,
+    );
+    refuse_or(fails_clash(table, near, k), Refusal::Clash(k), v)
 }
 
 // 12 and 13.

@@ -1,6 +1,6 @@
-// The refusals of document 01 that can be told of any record of any bytes: 1 to 8, 12 and 14, save FILLER, which stands in
+// The refusals of document 01 that can be told of any record of any bytes: 1 to 8 and 12, save FILLER, which stands in
 // `filler`. CLASH and LOOP, which look at a term's earlier values, stand in `terms`; CROWD and APART, with the order of all
-// of them, in `judging`.
+// of them, in `judging`, and LOOSE in `table`.
 use model::MOST_COLUMNS;
 use model::MOST_TABLE_BYTES;
 use model::RECORD_BYTES;
@@ -20,7 +20,6 @@ ghost use mathlib.Core.Bool.{not, _&&_};
 ghost use lib.Dec.{ltb};
 ghost use Rattle.model.specs.Record.{recordAt, isTerm};
 ghost use Rattle.model.specs.Check.{failsWidth, failsLength, failsKind, failsColumn, failsPart, failsReused, failsStray, failsBounds};
-ghost use Rattle.rules.specs.Rules.{looseIn};
 
 // 1 WIDTH: column count not 1 to 8.
 pub fn fails_width(columns: usize) -> bool
@@ -104,17 +103,4 @@ pub fn fails_bounds(table: &[u8], k: u8) -> bool
     ensures { λ r. ⌜ r ≡ failsBounds (now (table .entry)) k ⌝ }
 {
     (kind_at(table, k) == 4) & (v_at(table, k) < u_at(table, k))
-}
-
-// 14 LOOSE, of the first n records: a term other than the last that is no part.
-pub fn fails_loose(table: &[u8], n: u8, k: u8) -> bool
-    ensures { λ r. ⌜ r ≡ looseIn (now (table .entry)) n k ⌝ }
-{
-    if !is_term_at(table, k) {
-        return false;
-    }
-    if k == nearest_term(table, n) {
-        return false;
-    }
-    !is_part(table, n, k)
 }

@@ -1,36 +1,77 @@
 -- `judging::vetted::judge_rest` meets its contract. Assumes nothing.
-use mathlib.Core.Path.{_∙_, sym, ap}
+use mathlib.Core.Path.{_≡_, _∙_, sym, ap}
+use mathlib.Core.Bool.{false}
+use lib.Dec.{eqb}
 use denote.Ref.{now}
 use borrow.Author.Tests.{ne-eqb}
 use borrow.Author.Needs.{needs}
 use Rattle.model.specs.declared.Verdict.{Verdict}
+use Rattle.model.specs.Record.{kindAt}
 use Rattle.judging.specs.Judging.{judgeRun}
-use Rattle.judging.proofs.Judging.{run-none}
+use Rattle.judging.proofs.Judging.{run-none, shape-none}
 use Rattle.judging.proofs.vetted.judge_rest.Statement.{statement}
 use Rattle.judging.proofs.vetted.judge_rest.Tie as tie
-
-judge-shape-requires : tie.Need-judge-shape-requires
-judge-shape-requires c κs = search needs
 
 kind-at-requires : tie.Need-kind-at-requires
 kind-at-requires c κs = search needs
 
 judge-run-requires : tie.Need-judge-run-requires
-judge-run-requires c κs = search needs
+judge-run-requires c κs =
+    let r = c .before in
+    let s = r .before .before in
+    (record { fielded = s .pre .0; kind = sym (r .kind-at .ensures) ∙ c .if1 .taken }, s .pre .1)
 
 returns : tie.Need-returns
 returns c =
-    let j = c .before .before .before in
-    let s = j .before .before in
-    c .judge-run .ensures ∙ ap (λ (v : Verdict). judgeRun (now (s .args .table)) (s .args .k) v) (j .judge-shape .ensures)
+    let r = c .before .before in
+    let a = r .before .before .args in
+    let e : kindAt (now (a .table)) (a .k) ≡ 0 = sym (r .kind-at .ensures) ∙ c .before .if1 .taken in
+    c .judge-run .ensures
+    ∙ ap (λ (v : Verdict). judgeRun (now (a .table)) (a .k) v) (sym (shape-none (now (a .table)) (a .k) (rw e) (rw e)))
+
+judge-shape-requires : tie.Need-judge-shape-requires
+judge-shape-requires c κs = search needs
 
 returns-2 : tie.Need-returns-2
 returns-2 c =
-    let k = c .before in
-    let j = k .before in
-    let s = j .before .before in
-    rw (j .judge-shape .ensures) (sym (run-none (now (s .args .table)) (s .args .k) _ (rw (← (k .kind-at .ensures)) (ne-eqb _ _ (c .if1 .left)))))
+    let i = c .before .before in
+    let r = i .before in
+    let a = r .before .before .args in
+    c .judge-shape .ensures
+    ∙ sym (run-none (now (a .table)) (a .k) _ (rw (← (r .kind-at .ensures)) (ne-eqb _ _ (i .if1 .left))))
+
+judge-shape-requires-2 : tie.Need-judge-shape-requires-2
+judge-shape-requires-2 c κs = search needs
+
+returns-3 : tie.Need-returns-3
+returns-3 c =
+    let i = c .before .before .before in
+    let r = i .before in
+    let a = r .before .before .args in
+    c .judge-shape2 .ensures
+    ∙ sym (run-none (now (a .table)) (a .k) _ (rw (← (r .kind-at .ensures)) (ne-eqb _ _ (i .if1 .left))))
+
+returns-4 : tie.Need-returns-4
+returns-4 c =
+    let i = c .before in
+    let j = i .before in
+    let r = j .before in
+    let a = r .before .before .args in
+    let t = now (a .table) in
+    let off : eqb (kindAt t (a .k)) 0 ≡ false = rw (← (r .kind-at .ensures)) (ne-eqb _ _ (j .if1 .left)) in
+    let four : eqb (kindAt t (a .k)) 4 ≡ false = rw (← (r .kind-at .ensures)) (ne-eqb _ _ (i .if2 .left)) in
+    let both : eqb (kindAt t (a .k)) 18 ≡ false = rw (← (r .kind-at .ensures)) (ne-eqb _ _ (c .if3 .left)) in
+    sym (run-none t (a .k) _ off ∙ shape-none t (a .k) four both)
 
 pub judge-rest-spec : {M : Type 1} → statement M
 judge-rest-spec =
-    tie.close (tie.spec judge-shape-requires kind-at-requires judge-run-requires returns returns-2)
+    tie.close
+    (tie.spec
+    kind-at-requires
+    judge-run-requires
+    returns
+    judge-shape-requires
+    returns-2
+    judge-shape-requires-2
+    returns-3
+    returns-4)

@@ -1,38 +1,16 @@
 -- `records::record::word_at` meets its contract. Assumes nothing.
 use borrow.Author.Needs.{needs}
-use Rattle.model.specs.Bytes.{byteAt, wordAt}
+use Rattle.model.specs.Bytes.{wordAt}
 use Rattle.records.proofs.record.word_at.Statement.{statement}
 use Rattle.records.proofs.record.word_at.Tie as tie
 
 add-if1 : tie.Need-add-if1
 add-if1 c = search needs
 
-shared-slice-read-word-of : tie.Need-shared-slice-read-word-of
-shared-slice-read-word-of c = search needs
-
-add-word-of : tie.Need-add-word-of
-add-word-of c = search needs
-
-shared-slice-read-word-of-2 : tie.Need-shared-slice-read-word-of-2
-shared-slice-read-word-of-2 c = search needs
-
-add-word-of-2 : tie.Need-add-word-of-2
-add-word-of-2 c = search needs
-
-shared-slice-read-word-of-3 : tie.Need-shared-slice-read-word-of-3
-shared-slice-read-word-of-3 c = search needs
-
-add-word-of-3 : tie.Need-add-word-of-3
-add-word-of-3 c = search needs
-
-shared-slice-read-word-of-4 : tie.Need-shared-slice-read-word-of-4
-shared-slice-read-word-of-4 c = search needs
-
-word-of-requires : tie.Need-word-of-requires
-word-of-requires c κs = search needs
+word-in-requires : tie.Need-word-in-requires
+word-in-requires c κs = search needs
 
 returns : tie.Need-returns
-unfolding wordAt byteAt
 returns c = search needs
 
 byte-at-requires : tie.Need-byte-at-requires
@@ -56,8 +34,8 @@ add-byte-at-3 c = search needs
 byte-at-requires-4 : tie.Need-byte-at-requires-4
 byte-at-requires-4 c κs = search needs
 
-word-of-requires-2 : tie.Need-word-of-requires-2
-word-of-requires-2 c κs = search needs
+word-of-requires : tie.Need-word-of-requires
+word-of-requires c κs = search needs
 
 returns-2 : tie.Need-returns-2
 unfolding wordAt
@@ -68,14 +46,7 @@ word-at-spec =
     tie.close
     (tie.spec
     add-if1
-    shared-slice-read-word-of
-    add-word-of
-    shared-slice-read-word-of-2
-    add-word-of-2
-    shared-slice-read-word-of-3
-    add-word-of-3
-    shared-slice-read-word-of-4
-    word-of-requires
+    word-in-requires
     returns
     byte-at-requires
     add-byte-at
@@ -84,5 +55,5 @@ word-at-spec =
     byte-at-requires-3
     add-byte-at-3
     byte-at-requires-4
-    word-of-requires-2
+    word-of-requires
     returns-2)

@@ -43,45 +43,19 @@ judge-records-requires : tie.Need-judge-records-requires
 judge-records-requires c κs =
     let w = c .before .before in
     let a = w .before .before .before .args in
-    (length-ok (now (a .table)) (sym (c .before .fails-length .ensures) ∙ c .if2 .left), width-ok (a .columns) (sym (w .before .fails-width .ensures) ∙ w .if1 .left))
-
-enum-told : tie.Need-enum-told
-enum-told c = search needs
-
-enum-told-2 : tie.Need-enum-told-2
-enum-told-2 c = search needs
-
-judge-loose-requires : tie.Need-judge-loose-requires
-judge-loose-requires c κs = search needs
+    record {
+      few = length-ok (now (a .table)) (sym (c .before .fails-length .ensures) ∙ c .if2 .left);
+      narrow = width-ok (a .columns) (sym (w .before .fails-width .ensures) ∙ w .if1 .left);
+      whole = omega arith;
+    }
 
 returns-3 : tie.Need-returns-3
 unfolding refusal numbered refusals
 returns-3 c =
-    let r = c .before .before in
-    let l = r .before in
+    let l = c .before in
     let w = l .before .before in
     let a = w .before .before .before .args in
-    rw (
-      verdict-steps (now (a .table)) (a .columns),
-      sym (w .before .fails-width .ensures) ∙ w .if1 .left,
-      sym (l .before .fails-length .ensures) ∙ l .if2 .left,
-      sym (r .judge-records .ensures) ∙ c .enum-told .given .1,
-    ) (c .enum-told .given .1)
-
-returns-4 : tie.Need-returns-4
-unfolding refusal numbered refusals
-returns-4 c =
-    let e = c .before in
-    let r = e .before .before in
-    let l = r .before in
-    let w = l .before .before in
-    let a = w .before .before .before .args in
-    rw (
-      verdict-steps (now (a .table)) (a .columns),
-      sym (w .before .fails-width .ensures) ∙ w .if1 .left,
-      sym (l .before .fails-length .ensures) ∙ l .if2 .left,
-      sym (r .judge-records .ensures) ∙ e .enum-told2 .given .1,
-    ) (c .judge-loose .ensures)
+    rw (verdict-steps (now (a .table)) (a .columns), sym (w .before .fails-width .ensures) ∙ w .if1 .left, sym (l .before .fails-length .ensures) ∙ l .if2 .left) (c .judge-records .ensures)
 
 pub table-verdict-spec : {M : Type 1} → statement M
 table-verdict-spec =
@@ -94,8 +68,4 @@ table-verdict-spec =
     cast-n
     cast-judge-records
     judge-records-requires
-    enum-told
-    enum-told-2
-    judge-loose-requires
-    returns-3
-    returns-4)
+    returns-3)

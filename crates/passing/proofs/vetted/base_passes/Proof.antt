@@ -1,0 +1,12 @@
+-- `passing::vetted::base_passes` meets its contract. Assumes nothing.
+use mathlib.Core.Path.{refl}
+use Rattle.passing.specs.Passing.{basePasses}
+use Rattle.passing.proofs.vetted.base_passes.Statement.{statement}
+use Rattle.passing.proofs.vetted.base_passes.Tie as tie
+
+returns : tie.Need-returns
+unfolding basePasses
+returns c = refl
+
+pub base-passes-spec : {M : Type 1} → statement M
+base-passes-spec = tie.close (tie.spec returns)
