@@ -136,10 +136,20 @@ pub apart-none : (table : List ℕ) (k : ℕ) → eqb (kindAt table k) 18 ≡ fa
 unfolding failsApart
 apart-none table k e = rw e
 
--- 12 and 13 do not hold of a record that is neither BETWEEN nor BOTH.
-pub shape-none : (table : List ℕ) (k : ℕ) → eqb (kindAt table k) 4 ≡ false → eqb (kindAt table k) 18 ≡ false → judgeShape table k ≡ Verdict.Passed
+-- 12 is for BETWEEN alone, and 13 for BOTH.
+pub shape-bounds : (table : List ℕ) (k : ℕ) → eqb (kindAt table k) 18 ≡ false
+    → judgeShape table k ≡ refuseOr (failsBounds table k) (refusal 12 k) Verdict.Passed
+unfolding judgeShape
+shape-bounds table k e = rw (apart-none table k e)
+
+pub shape-apart : (table : List ℕ) (k : ℕ) → eqb (kindAt table k) 4 ≡ false
+    → judgeShape table k ≡ refuseOr (failsApart table k) (refusal 13 k) Verdict.Passed
 unfolding judgeShape failsBounds
-shape-none table k a b = rw (a, apart-none table k b)
+shape-apart table k e = rw e (sym (then-end (refuseIf (failsApart table k) (refusal 13 k))))
+
+pub shape-none : (table : List ℕ) (k : ℕ) → eqb (kindAt table k) 4 ≡ false → eqb (kindAt table k) 18 ≡ false
+    → judgeShape table k ≡ Verdict.Passed
+shape-none table k a b = shape-apart table k a ∙ rw (apart-none table k b)
 
 -- ---- values
 

@@ -22,32 +22,33 @@ ghost use mathlib.Core.Path.{_≡_};
 ghost use Rattle.model.specs.declared.Verdict.the-variants.{Passed};
 ghost use Rattle.model.specs.Record.{nearestTerm};
 ghost use Rattle.model.specs.Check.{judge, failsApart};
-ghost use Rattle.judging.specs.Judging.{refuseOr, judgeFields, judgeRun, judgeShape, Reached, Brought, Fielded, ValueFielded};
+ghost use Rattle.passing.specs.Passing.{Met};
+ghost use Rattle.judging.specs.Judging.{refuseOr, judgeFields, judgeRun, judgeShape, Brought, Fielded, ValueFielded};
 
 // Record k, where every record below it passed; `near` and `free` are what the check carries up to it.
 pub fn judge_record(table: &[u8], columns: u8, k: u8, near: u8, free: &[bool; 256]) -> Verdict
     requires { ⌜ Brought (now table) columns k near (now free) ⌝ }
     ensures { λ r. ⌜ r ≡ judge (now (table .entry)) columns k ⌝ }
 {
-    if passes_fields(table, columns, k, near, free) {
-        return judge_rest(table, columns, k, near);
-    }
-    judge_by_rules(table, columns, k, near)
-}
-
-// The same rule by rule, which says which of 3 to 8 refuses it.
-fn judge_by_rules(table: &[u8], columns: u8, k: u8, near: u8) -> Verdict
-    requires { ⌜ Reached (now table) columns k × (near ≡ nearestTerm (now table) k) ⌝ }
-    ensures { λ r. ⌜ r ≡ judge (now (table .entry)) columns k ⌝ }
-{
-    let first = judge_fields(table, columns, k);
+    let first = judge_first(table, columns, k, near, free);
     match first {
         Verdict::Refused(_) => first,
         Verdict::Passed => judge_rest(table, columns, k, near),
     }
 }
 
-// 3 to 8, which can be told of any bytes.
+// 3 to 8. Rule by rule they are looked at only where the record does not pass at a glance.
+fn judge_first(table: &[u8], columns: u8, k: u8, near: u8, free: &[bool; 256]) -> Verdict
+    requires { ⌜ Met (now table) k near (now free) ⌝ }
+    ensures { λ r. ⌜ r ≡ judgeFields (now (table .entry)) columns k Passed ⌝ }
+{
+    if passes_fields(table, columns, k, near, free) {
+        return Verdict::Passed;
+    }
+    judge_fields(table, columns, k)
+}
+
+// The same rule by rule, which can be told of any bytes.
 fn judge_fields(table: &[u8], columns: u8, k: u8) -> Verdict
     ensures { λ r. ⌜ r ≡ judgeFields (now (table .entry)) columns k Passed ⌝ }
 {
@@ -70,10 +71,11 @@ fn judge_rest(table: &[u8], columns: u8, k: u8, near: u8) -> Verdict
         return judge_run(table, columns, k, near);
     }
     if kind == 4 {
-        return judge_shape(table, columns, k);
+        return refuse_or(fails_bounds(table, k), Refusal::Bounds(k), Verdict::Passed);
     }
     if kind == 18 {
-        return judge_shape(table, columns, k);
+        let apart = fails_apart(table, columns, k);
+        return refuse_or(apart, Refusal::Apart(k), Verdict::Passed);
     }
     Verdict::Passed
 }
@@ -92,19 +94,6 @@ fn judge_run(table: &[u8], columns: u8, k: u8, near: u8) -> Verdict
         Verdict::Passed,
     );
     refuse_or(fails_clash(table, near, k), Refusal::Clash(k), v)
-}
-
-// 12 and 13.
-fn judge_shape(table: &[u8], columns: u8, k: u8) -> Verdict
-    requires { ⌜ Fielded (now table) columns k ⌝ }
-    ensures { λ r. ⌜ r ≡ judgeShape (now (table .entry)) k ⌝ }
-{
-    let v = refuse_or(
-        fails_apart(table, columns, k),
-        Refusal::Apart(k),
-        Verdict::Passed,
-    );
-    refuse_or(fails_bounds(table, k), Refusal::Bounds(k), v)
 }
 
 // 13 APART: BOTH of parts that read different columns.

@@ -2,41 +2,47 @@
 use mathlib.Core.Path.{_∙_, sym}
 use denote.Ref.{now}
 use borrow.Author.Needs.{needs}
-use Rattle.judging.proofs.Judging.{fields-cleared, judge-after}
+use Rattle.judging.proofs.Judging.{judge-after}
 use Rattle.judging.proofs.vetted.judge_record.Statement.{statement}
 use Rattle.judging.proofs.vetted.judge_record.Tie as tie
 
-passes-fields-requires : tie.Need-passes-fields-requires
-passes-fields-requires c κs = search needs
+judge-first-requires : tie.Need-judge-first-requires
+judge-first-requires c κs = c .before .pre .met
+
+enum-told : tie.Need-enum-told
+enum-told c = search needs
+
+enum-told-2 : tie.Need-enum-told-2
+enum-told-2 c = search needs
 
 judge-rest-requires : tie.Need-judge-rest-requires
 judge-rest-requires c κs =
-    let p = c .before in
-    let s = p .before .before in (
-      record {
-        reached = s .pre .reached;
-        fields = fields-cleared (now (s .args .table)) (s .args .columns) (s .args .k) (p .passes-fields .ensures (c .if1 .taken));
-      },
-      s .pre .met .carried .nearest,
-    )
+    let f = c .before .before in
+    let s = f .before .before in
+    (record { reached = s .pre .reached; fields = sym (f .judge-first .ensures) ∙ c .enum-told2 .given .1 }, s .pre .met .carried .nearest)
 
 returns : tie.Need-returns
 returns c =
-    let p = c .before .before in
-    let s = p .before .before in
-    let t = now (s .args .table) in
-    c .judge-rest .ensures
-    ∙ sym (judge-after t (s .args .columns) (s .args .k) _ (fields-cleared t (s .args .columns) (s .args .k) (p .passes-fields .ensures (c .before .if1 .taken))))
-
-judge-by-rules-requires : tie.Need-judge-by-rules-requires
-judge-by-rules-requires c κs =
-    let s = c .before .before .before in
-    (s .pre .reached, s .pre .met .carried .nearest)
+    let f = c .before .before in
+    let s = f .before .before in
+    let e = c .enum-told .given .1 in
+    e ∙ sym (judge-after (now (s .args .table)) (s .args .columns) (s .args .k) _ (sym (f .judge-first .ensures) ∙ e))
 
 returns-2 : tie.Need-returns-2
-returns-2 c = search needs
+returns-2 c =
+    let e = c .before in
+    let f = e .before .before in
+    let s = f .before .before in
+    c .judge-rest .ensures
+    ∙ sym (judge-after (now (s .args .table)) (s .args .columns) (s .args .k) _ (sym (f .judge-first .ensures) ∙ e .enum-told2 .given .1))
 
 pub judge-record-spec : {M : Type 1} → statement M
 judge-record-spec =
     tie.close
-    (tie.spec passes-fields-requires judge-rest-requires returns judge-by-rules-requires returns-2)
+    (tie.spec
+    judge-first-requires
+    enum-told
+    enum-told-2
+    judge-rest-requires
+    returns
+    returns-2)

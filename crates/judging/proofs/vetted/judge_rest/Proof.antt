@@ -7,8 +7,9 @@ use borrow.Author.Tests.{ne-eqb}
 use borrow.Author.Needs.{needs}
 use Rattle.model.specs.declared.Verdict.{Verdict}
 use Rattle.model.specs.Record.{kindAt}
-use Rattle.judging.specs.Judging.{judgeRun}
-use Rattle.judging.proofs.Judging.{run-none, shape-none}
+use Rattle.model.specs.Replies.{refusals, numbered, refusal}
+use Rattle.judging.specs.Judging.{judgeRun, judgeShape}
+use Rattle.judging.proofs.Judging.{run-none, shape-bounds, shape-apart, shape-none}
 use Rattle.judging.proofs.vetted.judge_rest.Statement.{statement}
 use Rattle.judging.proofs.vetted.judge_rest.Tie as tie
 
@@ -29,27 +30,39 @@ returns c =
     c .judge-run .ensures
     ∙ ap (λ (v : Verdict). judgeRun (now (a .table)) (a .k) v) (sym (shape-none (now (a .table)) (a .k) (rw e) (rw e)))
 
-judge-shape-requires : tie.Need-judge-shape-requires
-judge-shape-requires c κs = search needs
+fails-bounds-requires : tie.Need-fails-bounds-requires
+fails-bounds-requires c κs = search needs
+
+refuse-or-requires : tie.Need-refuse-or-requires
+refuse-or-requires c κs = search needs
 
 returns-2 : tie.Need-returns-2
+unfolding refusal numbered refusals
 returns-2 c =
-    let i = c .before .before in
-    let r = i .before in
+    let b = c .before in
+    let i = b .before in
+    let r = i .before .before in
     let a = r .before .before .args in
-    c .judge-shape .ensures
-    ∙ sym (run-none (now (a .table)) (a .k) _ (rw (← (r .kind-at .ensures)) (ne-eqb _ _ (i .if1 .left))))
+    let t = now (a .table) in
+    let e : kindAt t (a .k) ≡ 4 = sym (r .kind-at .ensures) ∙ i .if2 .taken in
+    rw (c .refuse-or .ensures, b .fails-bounds .ensures, run-none t (a .k) (judgeShape t (a .k)) (rw e), shape-bounds t (a .k) (rw e))
 
-judge-shape-requires-2 : tie.Need-judge-shape-requires-2
-judge-shape-requires-2 c κs = search needs
+fails-apart-requires : tie.Need-fails-apart-requires
+fails-apart-requires c κs = c .before .before .before .before .before .pre .0
+
+refuse-or-requires-2 : tie.Need-refuse-or-requires-2
+refuse-or-requires-2 c κs = search needs
 
 returns-3 : tie.Need-returns-3
+unfolding refusal numbered refusals
 returns-3 c =
-    let i = c .before .before .before in
-    let r = i .before in
+    let b = c .before in
+    let i = b .before in
+    let r = i .before .before .before in
     let a = r .before .before .args in
-    c .judge-shape2 .ensures
-    ∙ sym (run-none (now (a .table)) (a .k) _ (rw (← (r .kind-at .ensures)) (ne-eqb _ _ (i .if1 .left))))
+    let t = now (a .table) in
+    let e : kindAt t (a .k) ≡ 18 = sym (r .kind-at .ensures) ∙ i .if3 .taken in
+    rw (c .refuse-or2 .ensures, b .fails-apart .ensures, run-none t (a .k) (judgeShape t (a .k)) (rw e), shape-apart t (a .k) (rw e))
 
 returns-4 : tie.Need-returns-4
 returns-4 c =
@@ -70,8 +83,10 @@ judge-rest-spec =
     kind-at-requires
     judge-run-requires
     returns
-    judge-shape-requires
+    fails-bounds-requires
+    refuse-or-requires
     returns-2
-    judge-shape-requires-2
+    fails-apart-requires
+    refuse-or-requires-2
     returns-3
     returns-4)
