@@ -13,9 +13,10 @@ use Rattle.model.specs.declared.{Record.Record, Value.Value}
 use Rattle.model.specs.declared.CompoundTerm.the-variants.{Joined, Dual}
 use Rattle.model.specs.declared.Record.the-variants.{Base, Compound, Unknown}
 use Rattle.model.specs.Record.{kindAt, pAt, qAt, uAt, vAt, recordOf, recordAt, valuesOf}
+use Rattle.model.specs.Check.{failsColumn}
 use Rattle.model.specs.Term.{Term, termOf, termsBelow, columnsOf}
 use Rattle.laws.specs.Records.{Bytes}
-use Rattle.columns.specs.Columns.{maskOf, maskBelow}
+use Rattle.columns.specs.Columns.{unnumberedAt, maskOf, maskBelow}
 
 pub masks-none : (table : List ℕ) (k : ℕ) → k < 256 → getD (replicate 256 1) k 0 ≡ maskBelow table 0 k
 unfolding maskBelow
@@ -24,6 +25,20 @@ masks-none table k h = getD-replicate 256 k 1 0 h
 mask-cond : (b : Bool) (x y : Record) (part : ℕ → ℕ) → maskOf (cond b x y) part ≡ cond b (maskOf x part) (maskOf y part)
 mask-cond true x y part = refl
 mask-cond false x y part = refl
+
+column-cond : (columns : ℕ) (b : Bool) (x y : Record)
+    → failsColumn columns (cond b x y) ≡ cond b (failsColumn columns x) (failsColumn columns y)
+column-cond columns true x y = refl
+column-cond columns false x y = refl
+
+-- Its numbers have no say in a record's column and mask.
+pub column-unnumbered : (table : List ℕ) (columns k : ℕ) → failsColumn columns (unnumberedAt table k) ≡ failsColumn columns (recordAt table k)
+unfolding unnumberedAt recordAt recordOf
+column-unnumbered table columns k = simp column-cond
+
+pub mask-unnumbered : (table : List ℕ) (k : ℕ) (part : ℕ → ℕ) → maskOf (unnumberedAt table k) part ≡ maskOf (recordAt table k) part
+unfolding unnumberedAt recordAt recordOf
+mask-unnumbered table k part = simp mask-cond
 
 mask-parts : (kind p q : ℕ) (u v : ℤ) (f g : ℕ → ℕ) → f p ≡ g p → f q ≡ g q
     → maskOf (recordOf kind p q u v) f ≡ maskOf (recordOf kind p q u v) g

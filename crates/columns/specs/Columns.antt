@@ -5,11 +5,16 @@ use mathlib.Core.List.{List}
 use Prim.Native.Nat.{ℕ, zero, suc, _^_, _<_, _≤_}
 use lib.Bits.{bitOr}
 use lib.Dec.{eqb}
+use lib.IntN.{pos}
 use Rattle.model.specs.declared.Record.{Record}
 use Rattle.model.specs.declared.CompoundTerm.the-variants.{Joined, Dual}
 use Rattle.model.specs.declared.Record.the-variants.{Base, Compound, Unknown}
-use Rattle.model.specs.Record.{recordAt}
+use Rattle.model.specs.Record.{kindAt, pAt, qAt, recordOf, recordAt}
 use Rattle.model.specs.Check.{failsColumn}
+
+-- Record k without its numbers.
+unfoldable pub unnumberedAt : List ℕ → ℕ → Record
+unnumberedAt table k = recordOf (kindAt table k) (pAt table k) (qAt table k) (pos 0) (pos 0)
 
 -- The mask of a record from the masks of its parts. A record that is no term reads as ANY of column 0 (model, noTerm).
 abbrev pub maskOf : Record → (ℕ → ℕ) → ℕ

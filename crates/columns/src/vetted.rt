@@ -1,7 +1,10 @@
 // The columns that terms read, as masks: bit j for column j. Inner functions that other crates call, and no public calls.
 use model::CompoundTerm;
 use model::Record;
-use records::record::record_at;
+use records::record::kind_at;
+use records::record::p_at;
+use records::record::q_at;
+use records::record::record_of;
 ghost use mathlib.Core.Path.{_≡_};
 ghost use Prim.Native.Nat.{ℕ, _<_};
 ghost use mathlib.Core.Bool.{false};
@@ -9,9 +12,8 @@ ghost use lib.ListN.{getD};
 ghost use Rattle.model.specs.declared.Record.the-variants.{Compound};
 ghost use Rattle.model.specs.Search.{countBelow};
 ghost use Rattle.model.specs.Bytes.{bit};
-ghost use Rattle.model.specs.Record.{recordAt};
 ghost use Rattle.model.specs.Check.{failsColumn};
-ghost use Rattle.columns.specs.Columns.{maskOf, maskBelow, Narrow};
+ghost use Rattle.columns.specs.Columns.{unnumberedAt, maskOf, maskBelow, Narrow};
 
 // The masks of the records below m, one for every record number that a byte can hold.
 pub fn masks(table: &[u8], m: u8) -> [u8; 256]
@@ -21,12 +23,19 @@ pub fn masks(table: &[u8], m: u8) -> [u8; 256]
     let mut a = [1u8; 256];
     let mut i = 0u8;
     while i < m {
-        let x = mask_of(record_at(table, i), &a);
+        let x = mask_of(unnumbered(table, i), &a);
         let at = i as usize;
         a[at] = x;
         i += 1;
     }
     a
+}
+
+// Record i without its numbers, which have no say in its columns and are not read.
+fn unnumbered(table: &[u8], i: u8) -> Record
+    ensures { λ r. ⌜ r ≡ unnumberedAt (now (table .entry)) i ⌝ }
+{
+    record_of(kind_at(table, i), p_at(table, i), q_at(table, i), 0, 0)
 }
 
 fn mask_of(r: Record, a: &[u8; 256]) -> u8

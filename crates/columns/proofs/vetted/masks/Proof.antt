@@ -1,5 +1,5 @@
 -- `columns::vetted::masks` meets its contract. The array holds the masks of the records below `i`. Assumes nothing.
-use mathlib.Core.Path.{_≡_, refl}
+use mathlib.Core.Path.{_≡_, refl, _∙_}
 use Prim.Native.Nat.{ℕ, _-_, _≤_, _<_}
 use native.Mathlib.Omega.{arith}
 use lib.ListN.{length, getD, length-set}
@@ -8,7 +8,7 @@ use borrow.Author.Needs.{needs}
 use Rattle.model.specs.Bytes.{byteAt}
 use Rattle.laws.specs.Records.{Bytes}
 use Rattle.columns.specs.Columns.{maskBelow}
-use Rattle.columns.proofs.MaskLoop.{mask-same, masks-none, masks-more}
+use Rattle.columns.proofs.MaskLoop.{column-unnumbered, mask-unnumbered, mask-same, masks-none, masks-more}
 use Rattle.columns.proofs.vetted.masks.Statement.{statement}
 use Rattle.columns.proofs.vetted.masks.Tie as tie
 
@@ -21,14 +21,14 @@ abbrev μ-loop : tie.MeasureT-loop
 loop-holds : tie.Need-loop-holds Inv-loop μ-loop
 loop-holds c = (search needs, refl, masks-none _)
 
-record-at-requires : tie.Need-record-at-requires Inv-loop μ-loop
-record-at-requires c κs = search needs
+unnumbered-requires : tie.Need-unnumbered-requires Inv-loop μ-loop
+unnumbered-requires c κs = search needs
 
 mask-of-requires : tie.Need-mask-of-requires Inv-loop μ-loop
 mask-of-requires c κs =
     let r = c .before in
     let l = r .before .before in
-    rw (r .record-at .ensures) (l .before .before .pre .each (l .loop .i) (omega arith))
+    rw (r .unnumbered .ensures, column-unnumbered (now (l .before .before .args .table)) 8 (l .loop .i)) (l .before .before .pre .each (l .loop .i) (omega arith))
 
 cast-at : tie.Need-cast-at Inv-loop μ-loop
 cast-at c = search needs
@@ -53,7 +53,7 @@ loop-again c =
     let w : l .loop .i < length (l .loop .a) = omega (arith, s .before .pre .most, l .loop .inv .1) in (
       search needs,
       simp length-set (l .loop .inv .1),
-      masks-more (now (a .table)) (l .loop .a) (l .loop .i) (c .mask-of .result) w (l .loop .inv .2) (rw (← (r .record-at .ensures)) (c .mask-of .ensures))
+      masks-more (now (a .table)) (l .loop .a) (l .loop .i) (c .mask-of .result) w (l .loop .inv .2) (c .mask-of .ensures ∙ rw (r .unnumbered .ensures) (mask-unnumbered (now (a .table)) (l .loop .i) (λ k. getD (l .loop .a) k 0)))
           (mask-same (now (a .table)) bytes (l .loop .i) (λ k. getD (l .loop .a) k 0) (maskBelow (now (a .table)) (l .loop .i)) (l .loop .inv .2)),
     )
 
@@ -71,7 +71,7 @@ masks-spec =
     Inv-loop
     μ-loop
     loop-holds
-    record-at-requires
+    unnumbered-requires
     mask-of-requires
     cast-at
     array-write-a
