@@ -1,6 +1,6 @@
 -- A run of value records after a term record, and the rules that look at it with the term handed in.
 use mathlib.Core.Path.{_≡_}
-use mathlib.Core.Bool.{Bool, _&&_, _||_}
+use mathlib.Core.Bool.{Bool, true, false, cond, _&&_, _||_}
 use mathlib.Core.List.{List}
 use Prim.Native.Nat.{ℕ, _+_, _<_, _≤_}
 use lib.Dec.{eqb}
@@ -24,9 +24,13 @@ unfoldable pub clashIn : List ℕ → ℕ → ℕ → Bool
 clashIn table j k =
     (eqb (kindAt table j) 7 || eqb (kindAt table j) 8) && anyIn (valuesBetween table j k) (clash (valueAt table k))
 
--- Edge b begins where edge a ends.
-unfoldable pub follows : Value → Value → Bool
-follows a b = eqZ (a .v) (b .u)
+-- Edge b begins where edge a ends; backward, it ends where edge a begins.
+unfoldable pub goesOn : Bool → Value → Value → Bool
+goesOn back a b = cond back (eqZ (a .u) (b .v)) (eqZ (a .v) (b .u))
+
+-- One of the edges goes on from edge a, and one backward.
+unfoldable pub onAndBack : List Value → Value → Bool
+onAndBack edges a = anyIn edges (goesOn false a) && anyIn edges (goesOn true a)
 
 -- 11 LOOP, of value record k whose term is record j.
 unfoldable pub loopIn : List ℕ → ℕ → ℕ → Bool

@@ -13,7 +13,7 @@ ghost use Rattle.model.specs.Check.{clash, closesCycle};
 ghost use Rattle.laws.specs.Runs.{valuesBetween};
 ghost use Rattle.records.specs.Fields.{valueAt};
 ghost use Rattle.terms.specs.Run.{Values};
-ghost use Rattle.terms.specs.Run.{clashIn, follows, loopIn};
+ghost use Rattle.terms.specs.Run.{clashIn, goesOn, onAndBack, loopIn};
 
 // 10 CLASH: POS/NEG or POS/POS value standing earlier in its term's run under the other role.
 pub fn fails_clash(table: &[u8], j: u8, k: u8) -> bool
@@ -59,34 +59,48 @@ fn clash_with(table: &[u8], k: u8, i: u8) -> bool
 }
 
 // Whether the edge in record k closes a cycle with itself or the edges between records j and k. The closure is looked at only
-// where one of these begins at the edge's end: no path begins there else.
+// where one of these begins at the edge's end and one ends at its beginning: no path leads from there to here else.
 fn closes_cycle(table: &[u8], j: u8, k: u8) -> bool
     requires { ⌜ Values (now table) j k × (k ≤ j + 16) × (k < 128) ⌝ }
     ensures { λ r. ⌜ r ≡ closesCycle (valuesBetween (now (table .entry)) j k) (valueAt (now (table .entry)) k) ⌝ }
 {
-    if goes_on(table, j, k) {
+    if goes_on_and_back(table, j, k) {
         return closes_by_path(table, j, k);
     }
     u_word(table, k) == v_word(table, k)
 }
 
-// Whether one of the edges between records j and k begins where the edge in record k ends.
-fn goes_on(table: &[u8], j: u8, k: u8) -> bool
+fn goes_on_and_back(table: &[u8], j: u8, k: u8) -> bool
     requires { ⌜ Values (now table) j k ⌝ }
-    ensures { λ r. ⌜ r ≡ anyIn (valuesBetween (now (table .entry)) j k) (follows (valueAt (now (table .entry)) k)) ⌝ }
+    ensures { λ r. ⌜ r ≡ onAndBack (valuesBetween (now (table .entry)) j k) (valueAt (now (table .entry)) k) ⌝ }
+{
+    if goes_on(table, j, k, false) {
+        return goes_on(table, j, k, true);
+    }
+    false
+}
+
+// Whether one of the edges between records j and k begins where the edge in record k ends; backward, whether one ends where
+// that begins.
+fn goes_on(table: &[u8], j: u8, k: u8, back: bool) -> bool
+    requires { ⌜ Values (now table) j k ⌝ }
+    ensures { λ r. ⌜ r ≡ anyIn (valuesBetween (now (table .entry)) j k) (goesOn back (valueAt (now (table .entry)) k)) ⌝ }
 {
     let mut found = false;
     let mut i = j + 1;
     while i < k {
-        found = goes_on_with(table, k, i) | found;
+        found = goes_on_with(table, k, i, back) | found;
         i += 1;
     }
     found
 }
 
-fn goes_on_with(table: &[u8], k: u8, i: u8) -> bool
-    ensures { λ r. ⌜ r ≡ follows (valueAt (now (table .entry)) k) (valueAt (now (table .entry)) i) ⌝ }
+fn goes_on_with(table: &[u8], k: u8, i: u8, back: bool) -> bool
+    ensures { λ r. ⌜ r ≡ goesOn back (valueAt (now (table .entry)) k) (valueAt (now (table .entry)) i) ⌝ }
 {
+    if back {
+        return u_at(table, k) == v_at(table, i);
+    }
     v_at(table, k) == u_at(table, i)
 }
 

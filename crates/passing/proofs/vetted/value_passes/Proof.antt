@@ -12,7 +12,7 @@ takes-role-requires c κs = search needs
 
 returns : tie.Need-returns
 unfolding valuePasses
-returns c = 
+returns c =
     let t = c .before .before .before .before in
     rw (t .takes-role .ensures, t .before .record-of .ensures)
 

@@ -16,8 +16,8 @@ use Rattle.terms.proofs.Paths.{no-path}
 use Rattle.terms.proofs.vetted.run.closes_cycle.Statement.{statement}
 use Rattle.terms.proofs.vetted.run.closes_cycle.Tie as tie
 
-goes-on-requires : tie.Need-goes-on-requires
-goes-on-requires c κs = search needs
+goes-on-and-back-requires : tie.Need-goes-on-and-back-requires
+goes-on-and-back-requires c κs = search needs
 
 closes-by-path-requires : tie.Need-closes-by-path-requires
 closes-by-path-requires c κs = search needs
@@ -40,7 +40,7 @@ returns-2 c =
     let a = s .before .args in
     let t = now (a .table) in
     let bytes : Bytes t = λ i. omega (arith, s .shared-slice-known .given i) in
-    let none = no-path (valuesBetween t (a .j) (a .k)) (valueAt t (a .k)) (valueAt t (a .k) .u) (sym (g .goes-on .ensures) ∙ u .before .if1 .left) in
+    let none = no-path (valuesBetween t (a .j) (a .k)) (valueAt t (a .k)) (sym (g .goes-on-and-back .ensures) ∙ u .before .if1 .left) in
     rw (
       u .u-word .ensures,
       c .v-word .ensures,
@@ -51,4 +51,4 @@ returns-2 c =
 pub closes-cycle-spec : {M : Type 1} → statement M
 closes-cycle-spec =
     tie.close
-    (tie.spec goes-on-requires closes-by-path-requires returns u-word-requires v-word-requires returns-2)
+    (tie.spec goes-on-and-back-requires closes-by-path-requires returns u-word-requires v-word-requires returns-2)

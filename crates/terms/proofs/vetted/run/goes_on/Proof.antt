@@ -8,16 +8,16 @@ use borrow.Author.Needs.{needs}
 use Rattle.model.specs.Search.{anyIn}
 use Rattle.laws.specs.Runs.{valuesBetween, between-none, between-more}
 use Rattle.records.specs.Fields.{valueAt}
-use Rattle.terms.specs.Run.{follows}
+use Rattle.terms.specs.Run.{goesOn}
 use Rattle.terms.proofs.vetted.run.goes_on.Statement.{statement}
 use Rattle.terms.proofs.vetted.run.goes_on.Tie as tie
 
 abbrev Inv-loop : tie.InvT-loop
-Inv-loop table j k found₀ i₀ found i =
-    (j < i) × (i ≤ k) × (found ≡ anyIn (valuesBetween table j i) (follows (valueAt table k)))
+Inv-loop table j k back found₀ i₀ found i =
+    (j < i) × (i ≤ k) × (found ≡ anyIn (valuesBetween table j i) (goesOn back (valueAt table k)))
 
 abbrev μ-loop : tie.MeasureT-loop
-μ-loop table j k found₀ i₀ found i = k - i
+μ-loop table j k back found₀ i₀ found i = k - i
 
 add-i : tie.Need-add-i Inv-loop μ-loop
 add-i c = search needs
