@@ -1,9 +1,9 @@
 // Whether a record passes 3 to 8 (document 01, "What a call turns down"), by kind. Most records do; which rule refuses a
 // record is told by `rules` and `filler`, record by record and rule by rule.
-use records::record::Fields;
-use records::record::fields_in;
 use records::record::record_of;
 use records::values::takes_role;
+use records::vetted::Fields;
+use records::vetted::fields_in;
 ghost use mathlib.Core.Path.{_≡_};
 ghost use mathlib.Core.Bool.{true, false};
 ghost use Prim.Native.Nat.{ℕ};

@@ -1,5 +1,6 @@
 // A table's records (document 01, "The table"): their fields, and what they stand for. Past the table's end every byte
 // reads as 0, so that each function takes any record number.
+use crate::vetted::word_in;
 use model::BaseTerm;
 use model::CompoundTerm;
 use model::Pair;
@@ -7,37 +8,10 @@ use model::RECORD_BYTES;
 use model::Record;
 use model::Value;
 ghost use mathlib.Core.Path.{_≡_};
-ghost use Prim.Native.Nat.{_+_, _*_, _<_, _≤_};
-ghost use lib.ListN.{length};
+ghost use Prim.Native.Nat.{_+_, _*_, _<_};
 ghost use Rattle.model.specs.Bytes.{byteAt, wordAt, signed};
 ghost use Rattle.model.specs.Record.{kindAt, pAt, qAt, sAt, uAt, vAt, recordOf, recordAt};
-ghost use Rattle.records.specs.Fields.{uWord, vWord, FieldsAt};
-
-// The fields of a record, with u and v as their 32 bits.
-pub struct Fields {
-    pub kind: u8,
-    pub p: u8,
-    pub q: u8,
-    pub s: u8,
-    pub u: u32,
-    pub v: u32,
-}
-
-// The fields of record k where all its bytes are there: none of them is asked for its place.
-pub fn fields_in(table: &[u8], k: u8) -> Fields
-    requires { ⌜ 12 * k + 12 ≤ length (now table) ⌝ }
-    ensures { λ f. ⌜ FieldsAt (now (table .entry)) k (f .kind) (f .p) (f .q) (f .s) (f .u) (f .v) ⌝ }
-{
-    let a = RECORD_BYTES * (k as usize);
-    Fields {
-        kind: table[a],
-        p: table[a + 1],
-        q: table[a + 2],
-        s: table[a + 3],
-        u: word_in(table, a + 4),
-        v: word_in(table, a + 8),
-    }
-}
+ghost use Rattle.records.specs.Fields.{uWord, vWord};
 
 // Record k.
 pub fn record_at(table: &[u8], k: u8) -> Record
@@ -153,15 +127,8 @@ fn word_at(bytes: &[u8], at: usize) -> u32
     )
 }
 
-fn word_in(bytes: &[u8], at: usize) -> u32
-    requires { ⌜ (at < 65536) × (at + 3 < length (now bytes)) ⌝ }
-    ensures { λ r. ⌜ r ≡ wordAt (now (bytes .entry)) at ⌝ }
-{
-    word_of(bytes[at], bytes[at + 1], bytes[at + 2], bytes[at + 3])
-}
-
 // Four bytes as a number, low byte first.
-fn word_of(a: u8, b: u8, c: u8, d: u8) -> u32
+pub fn word_of(a: u8, b: u8, c: u8, d: u8) -> u32
     ensures { λ r. ⌜ r ≡ a + 256 * b + 65536 * c + 16777216 * d ⌝ }
 {
     wide(a) + 256 * wide(b) + 65536 * wide(c) + 16777216 * wide(d)

@@ -1,10 +1,10 @@
--- `records::record::fields_in` meets its contract. Assumes nothing.
+-- `records::vetted::fields_in` meets its contract. Assumes nothing.
 use mathlib.Core.Path.{refl}
 use borrow.Author.Needs.{needs}
 use Rattle.model.specs.Bytes.{byteAt}
 use Rattle.model.specs.Record.{kindAt, pAt, qAt, sAt}
-use Rattle.records.proofs.record.fields_in.Statement.{statement}
-use Rattle.records.proofs.record.fields_in.Tie as tie
+use Rattle.records.proofs.vetted.fields_in.Statement.{statement}
+use Rattle.records.proofs.vetted.fields_in.Tie as tie
 
 mul-a : tie.Need-mul-a
 mul-a c = search needs
