@@ -1,9 +1,9 @@
 -- The tests of a record's fields are sound: none of 3 to 8 holds of a record that passes them. Assumes nothing.
 use mathlib.Core.Path.{_≡_, refl, sym, _∙_, ap}
 use mathlib.Core.Logic.{⊎-elim}
-use mathlib.Core.Bool.{Bool, true, false, cond, not, _&&_, _||_, and-false, or-false}
-use mathlib.Core.List.{List, [], _∷_}
-use Prim.Native.Nat.{ℕ, zero, suc, _+_, _*_, _<_, _≤_}
+use mathlib.Core.Bool.{Bool, true, false, cond, not, _&&_, _||_, and-false}
+use mathlib.Core.List.{List}
+use Prim.Native.Nat.{ℕ, zero, suc, _<_, _≤_}
 use native.Mathlib.Omega.{arith}
 use lib.Dec.{eqb, ltb}
 use lib.IntN.{ℤ, pos}
@@ -13,12 +13,12 @@ use Rattle.model.specs.declared.BaseTerm.the-variants.{Lowest, Highest, Around,
 use Rattle.model.specs.declared.BaseTerm.the-variants.{Explicit, Any}
 use Rattle.model.specs.declared.Pair.the-variants.{Pareto, Prior, Both}
 use Rattle.model.specs.declared.CompoundTerm.the-variants.{Joined, Dual}
-use Rattle.model.specs.declared.Record.the-variants.{Base, Compound, Unknown}
+use Rattle.model.specs.declared.Record.the-variants.{Base, Compound}
 use Rattle.model.specs.Search.{anyIn}
-use Rattle.model.specs.Bytes.{wordAt, signed, eqZ}
-use Rattle.model.specs.Record.{kindAt, pAt, qAt, sAt, uAt, vAt, recordOf, recordAt, isTerm, partsOf, rolesOf, valueIn, nearestTerm}
+use Rattle.model.specs.Bytes.{signed, eqZ}
+use Rattle.model.specs.Record.{kindAt, pAt, qAt, sAt, uAt, vAt, recordOf, recordAt, isTerm, rolesOf, valueIn, nearestTerm}
 use Rattle.model.specs.Check.{filler, isPart, twice, failsFiller, failsPart, failsReused, ownerAt}
-use Rattle.laws.specs.Bools.{and-l, and-r, or-cases, on-or-off, not-both, off}
+use Rattle.laws.specs.Bools.{and-l, and-r, or-cases, not-both, off}
 use Rattle.laws.specs.ValueRules.{value-stray, no-stray}
 use Rattle.records.specs.Fields.{uWord, vWord, valueAt}
 use Rattle.passing.specs.Passing.{Cleared, freeAt, valuePasses, basePasses, dualPasses, pairPasses}

@@ -1,16 +1,15 @@
 -- `passing::vetted::passes_fields` meets its contract. Assumes nothing.
-use mathlib.Core.Path.{_≡_, sym, _∙_}
-use mathlib.Core.Bool.{Bool, true, false}
-use Prim.Native.Nat.{ℕ, _+_, _*_, _<_}
+use mathlib.Core.Path.{sym, _∙_}
+use mathlib.Core.Bool.{false}
+use Prim.Native.Nat.{_+_, _*_}
 use native.Mathlib.Omega.{arith}
 use lib.ListN.{getD}
 use denote.Ref.{now}
 use borrow.Author.Needs.{needs}
 use Rattle.model.specs.Bytes.{byteAt}
-use Rattle.model.specs.Record.{kindAt, pAt, qAt}
+use Rattle.model.specs.Record.{pAt, qAt}
 use Rattle.laws.specs.Records.{Bytes}
 use Rattle.laws.specs.Runs.{nearest-bound}
-use Rattle.passing.specs.Passing.{freeAt}
 use Rattle.passing.proofs.Passing.{passes-value, passes-base, passes-dual, passes-pair}
 use Rattle.passing.proofs.vetted.passes_fields.Statement.{statement}
 use Rattle.passing.proofs.vetted.passes_fields.Tie as tie
