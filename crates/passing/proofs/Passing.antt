@@ -1,7 +1,7 @@
 -- The tests of a record's fields are sound: none of 3 to 8 holds of a record that passes them. Assumes nothing.
 use mathlib.Core.Path.{_≡_, refl, sym, _∙_, ap}
 use mathlib.Core.Logic.{⊎-elim}
-use mathlib.Core.Bool.{Bool, true, false, cond, not, _&&_, _||_, and-false}
+use mathlib.Core.Bool.{Bool, true, false, cond, not, _&&_, _||_, and-false, or-false}
 use mathlib.Core.List.{List}
 use Prim.Native.Nat.{ℕ, zero, suc, _<_, _≤_}
 use native.Mathlib.Omega.{arith}
@@ -18,21 +18,37 @@ use Rattle.model.specs.Search.{anyIn}
 use Rattle.model.specs.Bytes.{signed, eqZ}
 use Rattle.model.specs.Record.{kindAt, pAt, qAt, sAt, uAt, vAt, recordOf, recordAt, isTerm, rolesOf, valueIn, nearestTerm}
 use Rattle.model.specs.Check.{filler, isPart, twice, failsFiller, failsPart, failsReused, ownerAt}
-use Rattle.laws.specs.Bools.{and-l, and-r, or-cases, not-both, off}
+use Rattle.laws.specs.Bools.{and-l, and-r, or-l, or-cases, not-both, off}
 use Rattle.laws.specs.ValueRules.{value-stray, no-stray}
 use Rattle.records.specs.Fields.{uWord, vWord, valueAt}
-use Rattle.passing.specs.Passing.{Cleared, freeAt, valuePasses, basePasses, dualPasses, pairPasses}
+use Rattle.passing.specs.Passing.{Cleared, freeAt, kindTakes, valuePasses, basePasses, dualPasses, pairPasses}
 
 -- ---- what a kind says
 
-roles-cond : (b : Bool) (x y : Record) → rolesOf (cond b x y) ≡ cond b (rolesOf x) (rolesOf y)
-roles-cond true x y = refl
-roles-cond false x y = refl
-
--- The roles that a record takes have nothing of its fields.
-roles-kind : (kind p q a b : ℕ) (u v x y : ℤ) → rolesOf (recordOf kind p q u v) ≡ rolesOf (recordOf kind a b x y)
-unfolding recordOf
-roles-kind kind p q a b u v x y = simp roles-cond
+-- A term takes the roles of its kind.
+takes-roles : (kind role p q : ℕ) (u v : ℤ) → kindTakes kind role ≡ true → anyIn (rolesOf (recordOf kind p q u v)) (eqb role) ≡ true
+unfolding kindTakes recordOf anyIn
+takes-roles kind role p q u v h =
+    let pos = eqb kind 5 && eqb role 1 in
+    let neg = eqb kind 6 && eqb role 2 in
+    let one : Bool = eqb role 1 || eqb role 2 in
+    let two : Bool = eqb role 1 || eqb role 3 in
+    let posneg = eqb kind 7 && one in
+    let pospos = eqb kind 8 && two in
+    let edge = eqb kind 9 && eqb role 4 in
+    ⊎-elim
+    (λ a. ⊎-elim
+    (λ b. ⊎-elim
+    (λ c. ⊎-elim
+    (λ d. rw (eqb-true kind 5 (and-l (eqb kind 5) (eqb role 1) d)) (or-l false (and-r (eqb kind 5) (eqb role 1) d)))
+    (λ d. rw (eqb-true kind 6 (and-l (eqb kind 6) (eqb role 2) d)) (or-l false (and-r (eqb kind 6) (eqb role 2) d)))
+    (or-cases pos neg c))
+    (λ c. rw (eqb-true kind 7 (and-l (eqb kind 7) one c), or-false (eqb role 2)) (and-r (eqb kind 7) one c))
+    (or-cases (pos || neg) posneg b))
+    (λ b. rw (eqb-true kind 8 (and-l (eqb kind 8) two b), or-false (eqb role 3)) (and-r (eqb kind 8) two b))
+    (or-cases (pos || neg || posneg) pospos a))
+    (λ a. rw (eqb-true kind 9 (and-l (eqb kind 9) (eqb role 4) a)) (or-l false (and-r (eqb kind 9) (eqb role 4) a)))
+    (or-cases (pos || neg || posneg || pospos) edge h)
 
 -- Kinds 1 to 10 are base terms.
 base-of : (kind p q : ℕ) (u v : ℤ) → 1 ≤ kind → kind < 11 → (b : BaseTerm) × (recordOf kind p q u v ≡ Base p b)
@@ -98,17 +114,17 @@ module _ (table : List ℕ) (columns k : ℕ) where
       ⊎-elim (λ a. rw (v-zero a)) (λ a. rw a (and-false (not (eqZ (vAt table k) (pos 0)))))
       (or-cases (eqb (vWord table k) 0) (eqb (pAt table k) 4) h)
 
-  value-taken : anyIn (rolesOf (recordOf (kindAt table (nearestTerm table k)) 0 0 (pos 0) (pos 0))) (eqb (pAt table k)) ≡ true
+  value-taken : kindTakes (kindAt table (nearestTerm table k)) (pAt table k) ≡ true
       → anyIn (rolesOf (ownerAt table k)) (eqb (pAt table k)) ≡ true
   unfolding ownerAt recordAt
-  value-taken h = ap (λ (l : List ℕ). anyIn l (eqb (pAt table k))) (roles-kind _ _ _ _ _ _ _ _ _) ∙ h
+  value-taken h = takes-roles _ (pAt table k) _ _ _ _ h
 
   pub passes-value : kindAt table k ≡ 0
       → valuePasses (kindAt table (nearestTerm table k)) (pAt table k) (qAt table k) (sAt table k) (vWord table k) ≡ true
       → Cleared table columns k
   unfolding valuePasses failsFiller failsPart failsReused anyIn twice
   passes-value e h =
-      let role = anyIn (rolesOf (recordOf (kindAt table (nearestTerm table k)) 0 0 (pos 0) (pos 0))) (eqb (pAt table k)) in
+      let role = kindTakes (kindAt table (nearestTerm table k)) (pAt table k) in
       let q = eqb (qAt table k) 0 in
       let s = eqb (sAt table k) 0 in
       let w = eqb (vWord table k) 0 || eqb (pAt table k) 4 in

@@ -4,10 +4,8 @@ use mathlib.Core.Bool.{Bool, false, cond, not, _&&_, _||_}
 use mathlib.Core.List.{List}
 use Prim.Native.Nat.{ℕ, _+_, _*_, _<_, _≤_}
 use lib.Dec.{eqb, ltb}
-use lib.IntN.{pos}
 use lib.ListN.{length, getD}
-use Rattle.model.specs.Search.{anyIn}
-use Rattle.model.specs.Record.{recordAt, recordOf, isTerm, rolesOf, nearestTerm}
+use Rattle.model.specs.Record.{recordAt, isTerm, nearestTerm}
 use Rattle.model.specs.Check.{isPart, failsKind, failsFiller, failsColumn, failsPart, failsReused, failsStray}
 
 -- None of 3 to 8 holds of record k.
@@ -38,9 +36,16 @@ pub record Met (table : List ℕ) (k near : ℕ) (free : List Bool) : Type 0 whe
   pub carried : Carried table k near free
 
 -- The tests, from a record's fields.
+unfoldable pub kindTakes : ℕ → ℕ → Bool
+kindTakes kind role =
+    eqb kind 5 && eqb role 1
+    || eqb kind 6 && eqb role 2
+    || eqb kind 7 && (eqb role 1 || eqb role 2)
+    || eqb kind 8 && (eqb role 1 || eqb role 3)
+    || eqb kind 9 && eqb role 4
+
 unfoldable pub valuePasses : ℕ → ℕ → ℕ → ℕ → ℕ → Bool
-valuePasses owner p q s v =
-    anyIn (rolesOf (recordOf owner 0 0 (pos 0) (pos 0))) (eqb p) && eqb q 0 && eqb s 0 && (eqb v 0 || eqb p 4)
+valuePasses owner p q s v = kindTakes owner p && eqb q 0 && eqb s 0 && (eqb v 0 || eqb p 4)
 
 unfoldable pub basePasses : ℕ → ℕ → ℕ → ℕ → ℕ → ℕ → ℕ → Bool
 basePasses columns kind p q s u v =

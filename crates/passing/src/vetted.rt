@@ -1,14 +1,12 @@
 // Whether a record passes 3 to 8 (document 01, "What a call turns down"), by kind. Most records do; which rule refuses a
 // record is told by `rules` and `filler`, record by record and rule by rule.
-use records::record::record_of;
-use records::values::takes_role;
 use records::vetted::Fields;
 use records::vetted::fields_in;
 ghost use mathlib.Core.Path.{_≡_};
 ghost use mathlib.Core.Bool.{true, false};
 ghost use Prim.Native.Nat.{ℕ};
 ghost use lib.ListN.{getD};
-ghost use Rattle.passing.specs.Passing.{Cleared, Met, valuePasses, basePasses, dualPasses, pairPasses};
+ghost use Rattle.passing.specs.Passing.{Cleared, Met, kindTakes, valuePasses, basePasses, dualPasses, pairPasses};
 
 // Whether record k passes 3 to 8; `near` is the nearest term before it, and `free` are the terms before it that are no
 // part yet.
@@ -35,8 +33,18 @@ pub fn passes_fields(table: &[u8], columns: u8, k: u8, near: u8, free: &[bool; 2
 fn value_passes(owner: u8, f: Fields) -> bool
     ensures { λ r. ⌜ r ≡ valuePasses owner (f .p) (f .q) (f .s) (f .v) ⌝ }
 {
-    let takes = takes_role(record_of(owner, 0, 0, 0, 0), f.p);
-    takes & (f.q == 0) & (f.s == 0) & ((f.v == 0) | (f.p == 4))
+    kind_takes(owner, f.p) & (f.q == 0) & (f.s == 0) & ((f.v == 0) | (f.p == 4))
+}
+
+// Whether a term of this kind takes values in this role.
+fn kind_takes(kind: u8, role: u8) -> bool
+    ensures { λ r. ⌜ r ≡ kindTakes kind role ⌝ }
+{
+    ((kind == 5) & (role == 1))
+        | ((kind == 6) & (role == 2))
+        | ((kind == 7) & ((role == 1) | (role == 2)))
+        | ((kind == 8) & ((role == 1) | (role == 3)))
+        | ((kind == 9) & (role == 4))
 }
 
 // A base term: AROUND (kind 3) fills u, and BETWEEN (kind 4) u and v.
