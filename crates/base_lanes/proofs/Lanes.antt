@@ -1,6 +1,6 @@
 -- What the loops over the lanes of a base record write are the codes of the lanes' values. Assumes nothing.
-use mathlib.Core.Path.{_≡_, refl, sym, _∙_}
-use mathlib.Core.Bool.{Bool, true, false, cond, true≢false}
+use mathlib.Core.Path.{_≡_, refl, _∙_}
+use mathlib.Core.Bool.{Bool, true, false, cond}
 use mathlib.Core.Logic.{⊎-elim}
 use mathlib.Core.List.{List}
 use Prim.Native.Nat.{ℕ, _+_, _*_, _-_, _<_, _≤_}
@@ -10,18 +10,26 @@ use lib.ListN.{length, getD, set}
 use lib.Seq.{getD-set-same, getD-set-other}
 use borrow.Author.Tests.{lt-ltb}
 use Rattle.model.specs.declared.{BaseTerm.BaseTerm}
-use Rattle.model.specs.declared.BaseTerm.the-variants.{Lowest, Highest, Around, Between, Pos, Neg, PosNeg, PosPos}
-use Rattle.model.specs.declared.BaseTerm.the-variants.{Explicit, Any}
+use Rattle.model.specs.declared.BaseTerm.the-variants.{Explicit}
 use Rattle.model.specs.Bytes.{eqZ}
 use Rattle.laws.specs.Search.{lt-suc-cases}
 use Rattle.laws.specs.Runs.{valuesBetween}
-use Rattle.laws.specs.ValueCodes.{testsCode, valueCode}
+use Rattle.laws.specs.ValueCodes.{testsCode, apartCode, valueCode}
+use Rattle.values.specs.Prepared.{EndPlace, ReachedFrom}
 use Rattle.classes.specs.Leads.{leads-is}
-use Rattle.rank.specs.Rank.{rankOf, RankAt, PlaceOf}
-use Rattle.rank.specs.ByRank.{isExplicit, rank-code}
+use Rattle.rank.specs.Rank.{rankOf, PlaceOf}
+use Rattle.rank.specs.ByRank.{isExplicit, ranks-code, order-code}
 use Rattle.lanes.specs.Wrote.{Wrote}
 use Rattle.lanes.specs.Lanes.{orderCode, orderLane, rankedLane, placeCode, placeLane}
 use Rattle.base_lanes.specs.Base.{BaseAsked, BaseCoded, placesCode, Against}
+
+-- Places give the code of two values that are not the same.
+pub places-code-is : (table : List ℕ) (k e : ℕ) (reach : List (List Bool)) → ReachedFrom table k e reach → (v w : ℤ) (p q : ℕ)
+    → EndPlace table k e v p → EndPlace table k e w q
+    → placesCode reach k e p q ≡ apartCode Explicit (valuesBetween table k e) v w
+unfolding placesCode apartCode
+places-code-is table k e reach from v w p q at to =
+    rw (leads-is table k e reach from v w p q at to, leads-is table k e reach from w v q p to at)
 
 -- Unranked or better where the values differ, and else the same.
 apart : (same first second : Bool) → cond same 0 (testsCode false first second) ≡ testsCode same first second
@@ -42,22 +50,6 @@ against-more {k = k} {q = q} {to = to} {c = c} low room a is =
           (lt-suc-cases m q (omega arith));
     }
 
-module _ (table : List ℕ) (k e : ℕ) where
-  -- Every term but EXPLICIT has a rank that its values give.
-  rank-is : (t : BaseTerm) → isExplicit t ≡ false → (y r : ℤ) → RankAt table k e t y r
-      → r ≡ rankOf t (valuesBetween table k e) y
-  unfolding isExplicit
-  rank-is Lowest h y r q = q
-  rank-is Highest h y r q = q
-  rank-is (Around wish) h y r q = q
-  rank-is (Between low up) h y r q = q
-  rank-is Pos h y r q = q
-  rank-is Neg h y r q = q
-  rank-is PosNeg h y r q = q
-  rank-is PosPos h y r q = q
-  rank-is Explicit h y r q = absurd (true≢false h)
-  rank-is Any h y r q = q
-
 module _ {table : List ℕ} {reach : List (List Bool)} {k e : ℕ} {x v : ℤ} {ranks : List ℤ} {at : ℕ} {values : List ℤ}
     {from : ℕ} {old new : List ℕ} where
   -- By rank and value.
@@ -69,9 +61,7 @@ module _ {table : List ℕ} {reach : List (List Bool)} {k e : ℕ} {x v : ℤ} {
       record {
         made = λ j l r.
             let y = getD values (from + j) (pos 0) in
-            w .made j l
-            ∙ rw (rank-is table k e t h y (getD ranks (at + j) (pos 0)) r, rank-is table k e t h v x (asked .own))
-            (sym (rank-code t (valuesBetween table k e) (asked .isSound) h v y));
+            w .made j l ∙ ranks-code table k e t h (asked .isSound) v y x (getD ranks (at + j) (pos 0)) (asked .own) r;
         below = w .below;
       }
 
@@ -85,9 +75,7 @@ module _ {table : List ℕ} {reach : List (List Bool)} {k e : ℕ} {x v : ℤ} {
       record {
         made = λ j l r.
             let y = getD values (from + j) (pos 0) in
-            w .made j l
-            ∙ rw (rank-is table k e t h y (getD ranks (at + j) (pos 0)) r, rank-is table k e t h v x (asked .own), same v y)
-            (sym (rank-code t (valuesBetween table k e) (asked .isSound) h v y));
+            w .made j l ∙ order-code table k e t h (asked .isSound) same v y x (getD ranks (at + j) (pos 0)) (asked .own) r;
         below = w .below;
       }
 
@@ -96,7 +84,7 @@ module _ {table : List ℕ} {reach : List (List Bool)} {k e : ℕ} {x v : ℤ} {
       → Against reach k e (2 * k + 2 + asked .own .place) (2 * e + 1) to
       → Wrote 0 (placeLane to ranks at v values from) (k * 64) 64 old new
       → BaseCoded table k e Explicit ranks at values from v old new
-  unfolding placeLane placeCode placesCode valueCode
+  unfolding placeLane placeCode apartCode valueCode
   place-coded {to} asked against w = record { made = λ j l r. w .made j l ∙ of-place j r; below = w .below }
     where
       p : ℕ
@@ -117,7 +105,6 @@ module _ {table : List ℕ} {reach : List (List Bool)} {k e : ℕ} {x v : ℤ} {
             r .is,
             lt-ltb (r .place) 33 (omega (arith, high, few)),
             there,
-            leads-is table k e reach from v y p q (asked .own .ends) (r .ends),
-            leads-is table k e reach from y v q p (r .ends) (asked .own .ends),
+            places-code-is table k e reach from v y p q (asked .own .ends) (r .ends),
           )
           (apart (eqZ v y) _ _)

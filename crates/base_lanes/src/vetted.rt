@@ -6,14 +6,15 @@ use lanes::vetted::base::place_lanes;
 use lanes::vetted::base::ranked_lanes;
 use model::BaseTerm;
 ghost use mathlib.Core.Path.{_≡_};
-ghost use Prim.Native.Nat.{_+_, _*_};
+ghost use Prim.Native.Nat.{_+_, _*_, _≤_};
+ghost use lib.ListN.{length};
 ghost use Rattle.model.specs.declared.BaseTerm.the-variants.{Explicit};
 ghost use Rattle.classes.specs.Places.{Ends};
 ghost use Rattle.base_lanes.specs.Base.{BaseAsked, BaseRoom, BaseCoded, placesCode, Against};
 
 pub fn base_codes(
     table: &[u8],
-    reach: &[[bool; 32]; 256],
+    reach: &[[bool; 32]],
     k: u8,
     e: u8,
     t: BaseTerm,
@@ -30,14 +31,14 @@ pub fn base_codes(
 {
     let a = (k as usize) * 64;
     match t {
-        BaseTerm::Lowest => order_lanes(ranks, at, x, codes, a),
-        BaseTerm::Highest => order_lanes(ranks, at, x, codes, a),
-        BaseTerm::Around(_) => ranked_lanes(ranks, at, x, values, from, v, codes, a),
-        BaseTerm::Between(_, _) => ranked_lanes(ranks, at, x, values, from, v, codes, a),
-        BaseTerm::Pos => ranked_lanes(ranks, at, x, values, from, v, codes, a),
-        BaseTerm::Neg => ranked_lanes(ranks, at, x, values, from, v, codes, a),
-        BaseTerm::PosNeg => ranked_lanes(ranks, at, x, values, from, v, codes, a),
-        BaseTerm::PosPos => ranked_lanes(ranks, at, x, values, from, v, codes, a),
+        BaseTerm::Lowest => order_lanes(ranks, at, x, codes, a, 64),
+        BaseTerm::Highest => order_lanes(ranks, at, x, codes, a, 64),
+        BaseTerm::Around(_) => ranked_lanes(ranks, at, x, values, from, v, codes, a, 64),
+        BaseTerm::Between(_, _) => ranked_lanes(ranks, at, x, values, from, v, codes, a, 64),
+        BaseTerm::Pos => ranked_lanes(ranks, at, x, values, from, v, codes, a, 64),
+        BaseTerm::Neg => ranked_lanes(ranks, at, x, values, from, v, codes, a, 64),
+        BaseTerm::PosNeg => ranked_lanes(ranks, at, x, values, from, v, codes, a, 64),
+        BaseTerm::PosPos => ranked_lanes(ranks, at, x, values, from, v, codes, a, 64),
         BaseTerm::Explicit => explicit_codes(
             table,
             reach,
@@ -51,14 +52,14 @@ pub fn base_codes(
             v,
             codes,
         ),
-        BaseTerm::Any => ranked_lanes(ranks, at, x, values, from, v, codes, a),
+        BaseTerm::Any => ranked_lanes(ranks, at, x, values, from, v, codes, a, 64),
     }
 }
 
 // EXPLICIT: by places among the ends of the edges.
 fn explicit_codes(
     table: &[u8],
-    reach: &[[bool; 32]; 256],
+    reach: &[[bool; 32]],
     k: u8,
     e: u8,
     ranks: &[i32],
@@ -78,8 +79,8 @@ fn explicit_codes(
 }
 
 // The code of place p against each place, from the first on.
-fn against(reach: &[[bool; 32]; 256], k: u8, e: u8, p: usize) -> [u8; 33]
-    requires { ⌜ Ends k e p ⌝ }
+fn against(reach: &[[bool; 32]], k: u8, e: u8, p: usize) -> [u8; 33]
+    requires { ⌜ Ends k e p × (2 * e ≤ length (now reach)) ⌝ }
     ensures { λ r. ⌜ Against (now (reach .entry)) k e p (2 * e + 1) r ⌝ }
 {
     let first = 2 * (k as usize) + 2;
@@ -94,8 +95,9 @@ fn against(reach: &[[bool; 32]; 256], k: u8, e: u8, p: usize) -> [u8; 33]
     to
 }
 
-fn place_code(reach: &[[bool; 32]; 256], k: u8, e: u8, p: usize, q: usize) -> u8
-    requires { ⌜ Ends k e p × Ends k e q ⌝ }
+// The code of place p against place q.
+pub fn place_code(reach: &[[bool; 32]], k: u8, e: u8, p: usize, q: usize) -> u8
+    requires { ⌜ Ends k e p × Ends k e q × (2 * e ≤ length (now reach)) ⌝ }
     ensures { λ r. ⌜ r ≡ placesCode (now (reach .entry)) k e p q ⌝ }
 {
     if leads(reach, k, e, q, p) {

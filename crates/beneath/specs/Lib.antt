@@ -1,2 +1,3 @@
--- The records beneath a term.
+-- The records beneath a term, and the codes of rows under them.
 pub mod Beneath
+pub mod Codes

@@ -6,7 +6,7 @@ use values::vetted::lookup::decoded;
 ghost use mathlib.Core.Path.{_≡_};
 ghost use mathlib.Core.Bool.{false, cond};
 ghost use Prim.Native.Nat.{_<_};
-ghost use lib.ListN.{getD};
+ghost use lib.ListN.{getD, length};
 ghost use Rattle.model.specs.Record.{recordAt};
 ghost use Rattle.values.specs.Prepared.{Numbers};
 ghost use Rattle.beneath.specs.Beneath.{Telling, OfParts, OfRecord, PartsLow, Marked, partsMarked, recordMarked};
@@ -16,13 +16,11 @@ pub fn beneath(table: &[u8], numbers: &[i32; 256], exits: &[u8; 128], term: u8) 
     requires { ⌜ (term < 128) × Numbers (now table) (now numbers) × PartsLow (now table) term ⌝ }
     ensures { λ r. ⌜ Marked (now (table .entry)) term (now (exits .entry)) r ⌝ }
 {
-    let first = telling(exits);
-    let mut marks = first;
+    let mut marks = telling(exits);
     let mut k = term + 1;
     while k > 0 {
         k -= 1;
-        let next = with_parts(table, numbers, k, marks);
-        marks = next;
+        mark_parts(table, numbers, k, &mut marks);
     }
     marks
 }
@@ -41,48 +39,44 @@ fn telling(exits: &[u8; 128]) -> [bool; 128]
 }
 
 // Marks the parts of record k too, if it is marked.
-fn with_parts(table: &[u8], numbers: &[i32; 256], k: u8, marks: [bool; 128]) -> [bool; 128]
-    requires { ⌜ (k < 128) × Numbers (now table) (now numbers) × PartsLow (now table) k ⌝ }
-    ensures { λ r. ⌜ r ≡ cond (getD marks k false) (recordMarked (recordAt (now (table .entry)) k) marks) marks ⌝ }
+fn mark_parts(table: &[u8], numbers: &[i32; 256], k: u8, marks: &mut [bool; 128])
+    requires { ⌜ (k < 128) × Numbers (now table) (now numbers) × PartsLow (now table) k × (length (now marks) ≡ 128) ⌝ }
+    ensures { λ _. ⌜ now (marks .exit) ≡ cond (getD (now (marks .entry)) k false) (recordMarked (recordAt (now (table .entry)) k) (now (marks .entry))) (now (marks .entry)) ⌝ }
 {
     let at = k as usize;
     if marks[at] {
-        return of_record(decoded(table, numbers, k), marks);
+        of_record(decoded(table, numbers, k), marks);
     }
-    marks
 }
 
 // Marks the parts of a record.
-fn of_record(r: Record, marks: [bool; 128]) -> [bool; 128]
-    requires { ⌜ OfRecord (λ p. p < 128) r ⌝ }
-    ensures { λ m. ⌜ m ≡ recordMarked r marks ⌝ }
+fn of_record(r: Record, marks: &mut [bool; 128])
+    requires { ⌜ OfRecord (λ p. p < 128) r × (length (now marks) ≡ 128) ⌝ }
+    ensures { λ _. ⌜ now (marks .exit) ≡ recordMarked r (now (marks .entry)) ⌝ }
 {
     match r {
-        Record::Value(_) => marks,
-        Record::Base(_, _) => marks,
+        Record::Value(_) => {}
+        Record::Base(_, _) => {}
         Record::Compound(c) => of_compound(c, marks),
-        Record::Unknown => marks,
+        Record::Unknown => {}
     }
 }
 
 // Marks the parts of a compound.
-fn of_compound(c: CompoundTerm, marks: [bool; 128]) -> [bool; 128]
-    requires { ⌜ OfParts (λ p. p < 128) c ⌝ }
-    ensures { λ m. ⌜ m ≡ partsMarked c marks ⌝ }
+fn of_compound(c: CompoundTerm, marks: &mut [bool; 128])
+    requires { ⌜ OfParts (λ p. p < 128) c × (length (now marks) ≡ 128) ⌝ }
+    ensures { λ _. ⌜ now (marks .exit) ≡ partsMarked c (now (marks .entry)) ⌝ }
 {
-    let mut next = marks;
     match c {
         CompoundTerm::Joined(_, p, q) => {
             let i = p as usize;
             let j = q as usize;
-            next[i] = true;
-            next[j] = true;
-            next
+            marks[i] = true;
+            marks[j] = true;
         }
         CompoundTerm::Dual(p) => {
             let i = p as usize;
-            next[i] = true;
-            next
+            marks[i] = true;
         }
     }
 }

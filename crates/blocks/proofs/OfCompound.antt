@@ -1,5 +1,5 @@
 -- The codes of a compound, from those of its parts, are those of its term. Assumes nothing.
-use mathlib.Core.Path.{_≡_, sym, _∙_, ap}
+use mathlib.Core.Path.{_≡_, _∙_}
 use mathlib.Core.Bool.{Bool}
 use mathlib.Core.List.{List}
 use Prim.Native.Nat.{ℕ, _+_, _*_, _<_}
@@ -8,16 +8,16 @@ use lib.IntN.{ℤ}
 use Rattle.model.specs.declared.{CompoundTerm.CompoundTerm}
 use Rattle.model.specs.declared.CompoundTerm.the-variants.{Joined, Dual}
 use Rattle.model.specs.declared.Record.the-variants.{Compound}
-use Rattle.model.specs.Record.{recordAt, isTerm}
+use Rattle.model.specs.Record.{recordAt}
 use Rattle.model.specs.Term.{termAt}
 use Rattle.model.specs.Query.{rowAt}
-use Rattle.laws.specs.Codes.{code, pair-code, dual-code}
+use Rattle.laws.specs.Codes.{code}
 use Rattle.laws.specs.AcceptedKinds.{accepted-joined, accepted-dual}
-use Rattle.laws.specs.AcceptedTerms.{accepted-sound}
 use Rattle.beneath.specs.Beneath.{OfParts, parts-low}
+use Rattle.beneath.specs.Codes.{joined-code-is, dual-code-is}
 use Rattle.lanes.specs.Wrote.{Wrote}
-use Rattle.lanes.specs.Lanes.{turnedLane}
-use Rattle.blocks.specs.Blocks.{Ready, AtRecord, Coded, joinedLane, compoundLane}
+use Rattle.lanes.specs.Lanes.{joinedLane, turnedLane, compoundLane}
+use Rattle.blocks.specs.Blocks.{Ready, AtRecord, Coded}
 use Rattle.blocks.proofs.Coded.{ok, below, coded-more}
 
 module _ {table : List ℕ} {numbers : List ℤ} {ends : List ℕ} {reach : List (List Bool)} {marks : List Bool}
@@ -30,32 +30,22 @@ module _ {table : List ℕ} {numbers : List ℤ} {ends : List ℕ} {reach : List
   -- The parts' codes are right, since they stand below and are marked.
   compound-right : (c : CompoundTerm) → recordAt table k ≡ Compound c → (old : List ℕ)
       → Coded table marks columns rows n i b k old → (j : ℕ) → j < 64 → b * 64 + j < n
-      → compoundLane c old j ≡ code (termAt table k) (rowAt columns rows i) (rowAt columns rows (b * 64 + j))
+      → compoundLane 64 c old j ≡ code (termAt table k) (rowAt columns rows i) (rowAt columns rows (b * 64 + j))
   unfolding joinedLane turnedLane
   compound-right (Joined op p q) is old c j small row =
-      let x = rowAt columns rows i in
-      let y = rowAt columns rows (b * 64 + j) in
       let a = accepted-joined table columns (ok ready) k (below ready at) op p q is in
-      let s = accepted-sound table columns (ok ready) k (below ready at) (ap isTerm is) in
       let m = ready .marked .parts k (Joined op p q) (omega arith) (at .most) (at .marked) is in
-      rw (
-        c .each p j (a .left) (m .0) (a .leftTerm) small row,
-        c .each q j (a .right) (m .1) (a .rightTerm) small row,
-        a .equation,
-      )
-      (sym (pair-code op (termAt table p) (termAt table q) (rw (a .equation) at (s .0)) (rw (a .equation) at (s .1)) x y))
+      joined-code-is (ok ready) (below ready at) is (rowAt columns rows i) (rowAt columns rows (b * 64 + j))
+      (c .each p j (a .left) (m .0) (a .leftTerm) small row) (c .each q j (a .right) (m .1) (a .rightTerm) small row)
   compound-right (Dual p) is old c j small row =
-      let x = rowAt columns rows i in
-      let y = rowAt columns rows (b * 64 + j) in
       let a = accepted-dual table columns (ok ready) k (below ready at) p is in
-      let s = accepted-sound table columns (ok ready) p (omega (arith, below ready at, a .part)) (a .partTerm) in
       let m = ready .marked .parts k (Dual p) (omega arith) (at .most) (at .marked) is in
-      rw (c .each p j (a .part) m (a .partTerm) small row, a .equation)
-      (sym (dual-code (termAt table p) (s .0) (s .1) x y))
+      dual-code-is (ok ready) (below ready at) is (rowAt columns rows i) (rowAt columns rows (b * 64 + j))
+      (c .each p j (a .part) m (a .partTerm) small row)
 
   -- One compound more.
   pub compound-coded : {c : CompoundTerm} → recordAt table k ≡ Compound c → {old new : List ℕ}
-      → Coded table marks columns rows n i b k old → Wrote 0 (compoundLane c old) (k * 64) 64 old new
+      → Coded table marks columns rows n i b k old → Wrote 0 (compoundLane 64 c old) (k * 64) 64 old new
       → Coded table marks columns rows n i b (k + 1) new
   compound-coded {c} is {old} r w =
       coded-more r (w .below) (λ m t j small row. w .made j small ∙ compound-right c is old r j small row)

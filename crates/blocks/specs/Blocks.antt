@@ -6,12 +6,10 @@ use mathlib.Core.List.{List}
 use Prim.Native.Nat.{ℕ, _+_, _*_, _<_, _≤_}
 use lib.IntN.{ℤ}
 use lib.ListN.{getD, length}
-use Rattle.model.specs.declared.{CompoundTerm.CompoundTerm, Pair.Pair}
-use Rattle.model.specs.declared.CompoundTerm.the-variants.{Joined, Dual}
 use Rattle.model.specs.Record.{recordAt, isTerm}
 use Rattle.model.specs.Term.{termAt}
 use Rattle.model.specs.Query.{rowAt}
-use Rattle.laws.specs.Codes.{code, joinedCode}
+use Rattle.laws.specs.Codes.{code}
 use Rattle.laws.specs.Taken.{TakenTerm}
 use Rattle.values.specs.Prepared.{Numbers, RunEnds, Reached}
 use Rattle.exit_parts.specs.Exits.{Exits}
@@ -20,7 +18,6 @@ use Rattle.cells.specs.Values.{Room, Valued}
 use Rattle.beneath.specs.Beneath.{Marked}
 use Rattle.ranks.specs.Ranked.{Ranked}
 use Rattle.known.specs.Lanes.{Told, Ended}
-use Rattle.lanes.specs.Lanes.{turnedLane}
 
 -- A query's table, rows, ranks and values. A block takes `stride` of the ranks.
 pub record Ready (table : List ℕ) (numbers : List ℤ) (ends : List ℕ) (reach : List (List Bool)) (marks : List Bool)
@@ -68,13 +65,3 @@ pub record RecordTold (m : ℕ) (codes : List ℕ) (k : ℕ) (old new : List ℕ
 pub record AskedCoded (table : List ℕ) (term columns : ℕ) (rows : List ℤ) (n i b : ℕ) (live codes : List ℕ) : Type 0 where
   pub each : (j : ℕ) → j < 64 → b * 64 + j < n → getD live j 0 ≡ 1
       → getD codes (term * 64 + j) 0 ≡ code (termAt table term) (rowAt columns rows i) (rowAt columns rows (b * 64 + j))
-
--- ---- compounds
-
--- A compound's code in lane j, from its parts' codes.
-unfoldable pub joinedLane : Pair → List ℕ → ℕ → ℕ → ℕ → ℕ
-joinedLane op codes l r j = joinedCode op (getD codes (l + j) 0) (getD codes (r + j) 0)
-
-abbrev pub compoundLane : CompoundTerm → List ℕ → ℕ → ℕ
-compoundLane (Joined op p q) codes j = joinedLane op codes (p * 64) (q * 64) j
-compoundLane (Dual p) codes j = turnedLane codes (p * 64) j

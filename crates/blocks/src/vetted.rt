@@ -5,25 +5,19 @@ use known::vetted::all_known;
 use known::vetted::put_known;
 use known::vetted::start_known;
 use known::vetted::tell_lanes;
-use lanes::vetted::compound::or_lanes;
-use lanes::vetted::compound::prior_lanes;
-use lanes::vetted::compound::turned_lanes;
-use model::CompoundTerm;
-use model::Pair;
+use lanes::vetted::compound::compound_lanes;
 use model::Record;
 use values::vetted::lookup::decoded;
 ghost use Prim.Native.Nat.{_+_, _*_, _<_, _≤_};
 ghost use lib.ListN.{length};
-ghost use Rattle.lanes.specs.Wrote.{Wrote};
-ghost use Rattle.beneath.specs.Beneath.{OfParts};
-ghost use Rattle.blocks.specs.Blocks.{Ready, AtRecord, Coded, RecordTold, AskedCoded, joinedLane, compoundLane};
+ghost use Rattle.blocks.specs.Blocks.{Ready, AtRecord, Coded, RecordTold, AskedCoded};
 
 // The asked term's codes in the lanes that are lit, from what the records up to it tell.
 pub fn block_codes(
     table: &[u8],
     numbers: &[i32; 256],
     ends: &[u8; 128],
-    reach: &[[bool; 32]; 256],
+    reach: &[[bool; 32]],
     marks: &[bool; 128],
     exits: &[u8; 128],
     term: u8,
@@ -101,7 +95,7 @@ fn record_codes(
     table: &[u8],
     numbers: &[i32; 256],
     ends: &[u8; 128],
-    reach: &[[bool; 32]; 256],
+    reach: &[[bool; 32]],
     marks: &[bool; 128],
     exits: &[u8; 128],
     term: u8,
@@ -142,36 +136,7 @@ fn record_codes(
                 codes,
             );
         }
-        Record::Compound(c) => compound_codes(c, codes, k),
+        Record::Compound(c) => compound_lanes(c, codes, k, 64),
         Record::Unknown => {}
-    }
-}
-
-// The codes of a compound, from its parts' codes and nothing else.
-fn compound_codes(c: CompoundTerm, codes: &mut [u8], k: u8)
-    requires { ⌜ (k * 64 + 64 ≤ length (now codes)) × OfParts (λ p. p < k) c ⌝ }
-    ensures { λ _. ⌜ Wrote 0 (compoundLane c (now (codes .entry))) (k * 64) 64 (now (codes .entry)) (now (codes .exit)) ⌝ }
-{
-    let a = (k as usize) * 64;
-    match c {
-        CompoundTerm::Joined(op, p, q) => joined_codes(
-            op,
-            codes,
-            a,
-            (p as usize) * 64,
-            (q as usize) * 64,
-        ),
-        CompoundTerm::Dual(p) => turned_lanes(codes, a, (p as usize) * 64),
-    }
-}
-
-fn joined_codes(op: Pair, codes: &mut [u8], a: usize, l: usize, r: usize)
-    requires { ⌜ (a + 64 ≤ length (now codes)) × (l + 64 ≤ a) × (r + 64 ≤ a) ⌝ }
-    ensures { λ _. ⌜ Wrote 0 (joinedLane op (now (codes .entry)) l r) a 64 (now (codes .entry)) (now (codes .exit)) ⌝ }
-{
-    match op {
-        Pair::Pareto => or_lanes(codes, a, l, r),
-        Pair::Prior => prior_lanes(codes, a, l, r),
-        Pair::Both => or_lanes(codes, a, l, r),
     }
 }

@@ -1,7 +1,7 @@
 // The comparison that rests on a table that the check has accepted.
 use model::Outcome;
 use outcomes::vetted::rows::compare_rows;
-use values::vetted::prepared::closures;
+use values::vetted::prepared::fill_closures;
 use values::vetted::prepared::numbers;
 use values::vetted::prepared::run_ends;
 ghost use mathlib.Core.Path.{_≡_};
@@ -16,6 +16,7 @@ pub fn compared(table: &[u8], term: u8, first: &[i32], second: &[i32]) -> Outcom
 {
     let a = numbers(table);
     let e = run_ends(table);
-    let g = closures(table, &e);
+    let mut g = [[false; 32]; 256];
+    fill_closures(table, &e, &mut g);
     compare_rows(table, &a, &e, &g, term, first, second)
 }

@@ -3,7 +3,7 @@ use asked::vetted::term_verdict;
 use model::Outcome;
 use model::Verdict;
 use outcomes::vetted::rows::compare_rows;
-use values::vetted::prepared::closures;
+use values::vetted::prepared::fill_closures;
 use values::vetted::prepared::numbers;
 use values::vetted::prepared::run_ends;
 ghost use mathlib.Core.Path.{_≡_};
@@ -47,7 +47,8 @@ fn compared(table: &[u8], rows: &[i32]) -> Counts
 {
     let a = numbers(table);
     let e = run_ends(table);
-    let g = closures(table, &e);
+    let mut g = [[false; 32]; 256];
+    fill_closures(table, &e, &mut g);
     let mut counts = no_counts();
     let mut i = 0usize;
     while i < 1000 {
@@ -63,7 +64,7 @@ fn with_row(
     table: &[u8],
     numbers: &[i32; 256],
     ends: &[u8; 128],
-    reach: &[[bool; 32]; 256],
+    reach: &[[bool; 32]],
     rows: &[i32],
     i: usize,
     before: Counts,
@@ -84,7 +85,7 @@ fn pair(
     table: &[u8],
     numbers: &[i32; 256],
     ends: &[u8; 128],
-    reach: &[[bool; 32]; 256],
+    reach: &[[bool; 32]],
     rows: &[i32],
     i: usize,
     j: usize,

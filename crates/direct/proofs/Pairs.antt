@@ -5,21 +5,18 @@ use mathlib.Core.List.{List}
 use Prim.Native.Nat.{ℕ, _+_, _≤_}
 use native.Mathlib.Omega.{arith}
 use lib.IntN.{ℤ}
-use lib.ListN.{length, replicate, getD-replicate}
+use lib.ListN.{length, replicate, getD-replicate, length-replicate}
 use Rattle.model.specs.Search.{countBelow}
 use Rattle.laws.specs.Search.{count-bound}
-use Rattle.laws.specs.Order.{Rel}
 use Rattle.values.specs.Prepared.{RunEnds, Reached}
 use Rattle.cells.specs.Values.{Room}
 use Rattle.beneath.specs.Beneath.{Marked}
 use Rattle.ranks.specs.Ranked.{Ranked}
 use Rattle.exit_parts.specs.Exits.{Exits}
 use Rattle.ops.specs.Ops.{Ops}
-use Rattle.elimination.specs.Elimination.{Rounds, Beaten}
-use Rattle.elimination.specs.Beaten.{beaten-start}
-use Rattle.elimination.specs.Rounds.{rounds-start}
 use Rattle.pair_records.specs.Pairs.{Comparable}
 use Rattle.selection.specs.Selected.{AskedRows, StrideFor}
+use Rattle.direct.specs.Rooms.{Cleared}
 
 -- A query's rows can be compared.
 pub comparable : {table : List ℕ} {columns term : ℕ} {rows : List ℤ} {n stride : ℕ} {ops ends : List ℕ}
@@ -44,14 +41,15 @@ comparable asked strides o e g m x ranked room =
       narrow = strides .narrow;
     }
 
--- At first no row is gone.
-pub none-gone : (beats : Rel ℕ) (n : ℕ) → n ≤ 1024 → Rounds beats n 0 (replicate 1024 0)
-none-gone beats n few = rounds-start beats n (replicate 1024 0) (λ j h. getD-replicate 1024 j 0 0 (omega arith))
-
--- so that none is beaten yet.
-pub none-beaten : (beats : Rel ℕ) (n : ℕ) → n ≤ 1024 → Beaten beats n (replicate 1024 0) (replicate 1024 0)
-none-beaten beats n few =
-    beaten-start beats n (replicate 1024 0) (replicate 1024 0) (λ j h. getD-replicate 1024 j 0 0 (omega arith))
+-- Buffers of zeros, with room for so many rows.
+pub cleared : {n : ℕ} (size : ℕ) → n ≤ size → Cleared n (replicate size 0) size size
+cleared size h =
+    record {
+      none = λ j l. getD-replicate size j 0 0 (omega (arith, l, h));
+      ofGone = rw (length-replicate {A = ℕ} size 0) h;
+      ofBy = h;
+      ofKept = h;
+    }
 
 -- At most as many rows pass a test as there are.
 pub count-small : (n m : ℕ) (pass : ℕ → Bool) → n ≤ 1024 → m ≡ countBelow n pass → m ≤ 1024

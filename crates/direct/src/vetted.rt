@@ -1,13 +1,16 @@
 // The direct engine: rows are compared pair by pair, by ranks that are found once per query; a row that is gone is not
 // compared again, and a dropped row's witness comes from the list of kept rows.
 use beneath::vetted::beneath;
+use different_keys::vetted::all_differ;
 use exits::vetted::exits;
 use kept_list::vetted::list_kept;
 use keys::vetted::fill_keys;
+use lone_rows::vetted::own_entries;
 use ops::vetted::ops;
 use pairwise::vetted::eliminate;
 use ranks::vetted::fill_ranks;
-use values::vetted::prepared::closures;
+use values::vetted::prepared::fill_closures;
+use values::vetted::prepared::has_explicit;
 use values::vetted::prepared::numbers;
 use values::vetted::prepared::run_ends;
 use witnesses::vetted::write_answers;
@@ -16,9 +19,12 @@ ghost use lib.ListN.{length};
 ghost use Rattle.model.specs.Term.{termAt};
 ghost use Rattle.model.specs.Query.{beatsIn, rowCount};
 ghost use Rattle.laws.specs.Taken.{Taken};
+ghost use Rattle.values.specs.Prepared.{RunEnds, Reached};
+ghost use Rattle.keys.specs.Keys.{Keyed};
 ghost use Rattle.cells.specs.Values.{Room};
 ghost use Rattle.pair_records.specs.Pairs.{Comparable};
 ghost use Rattle.selection.specs.Selected.{AskedRows, StrideFor, Selected};
+ghost use Rattle.direct.specs.Rooms.{Cleared};
 
 // Writes the entries. Returns how many rows are kept. A block of 64 rows takes 64 ranks for each record up to the term. Few rows
 // and few records need little room: clearing it all costs more than they do.
@@ -36,6 +42,9 @@ pub fn selected(
 {
     let n = rows.len() / columns;
     let stride = (term as usize) * 64 + 64;
+    if n <= 16 {
+        return of_few_rows(table, columns, rows, n, stride, term, group, answers);
+    }
     if n <= 64 {
         return in_one_block(table, columns, rows, n, stride, term, group, answers);
     }
@@ -45,7 +54,33 @@ pub fn selected(
     in_blocks(table, columns, rows, n, stride, term, group, answers)
 }
 
-// One block: 16 records, or all 128.
+// Few rows in groups may each be alone, and then none is compared.
+fn of_few_rows(
+    table: &[u8],
+    columns: usize,
+    rows: &[i32],
+    n: usize,
+    stride: usize,
+    term: u8,
+    group: u8,
+    answers: &mut [u16],
+) -> u16
+    requires { ⌜ AskedRows (now table) columns term (now rows) n × StrideFor term stride × (n ≤ 16) × (n ≤ length (now answers)) ⌝ }
+    ensures { λ r. ⌜ Selected (beatsIn (termAt (now (table .entry)) term) columns (now (rows .entry)) group) n
+        (now (answers .entry)) (now (answers .exit)) r ⌝ }
+{
+    if group == 0 {
+        return in_one_block(table, columns, rows, n, stride, term, group, answers);
+    }
+    let mut keys = [0u8; 16];
+    fill_keys(group, columns, rows, n, &mut keys);
+    if all_differ(n, &keys) {
+        return own_entries(n, answers);
+    }
+    in_one_block(table, columns, rows, n, stride, term, group, answers)
+}
+
+// One block: 16 records, 80, or all 128.
 fn in_one_block(
     table: &[u8],
     columns: usize,
@@ -62,6 +97,9 @@ fn in_one_block(
 {
     if stride <= 1024 {
         return in_1024_ranks(table, columns, rows, n, stride, term, group, answers);
+    }
+    if stride <= 5120 {
+        return in_5120_ranks(table, columns, rows, n, stride, term, group, answers);
     }
     in_8192_ranks(table, columns, rows, n, stride, term, group, answers)
 }
@@ -150,6 +188,36 @@ fn in_1024_ranks(
         (now (answers .entry)) (now (answers .exit)) r ⌝ }
 {
     let mut ranks = [0i32; 1024];
+    prepared(
+        table,
+        columns,
+        rows,
+        n,
+        stride,
+        term,
+        group,
+        &mut ranks,
+        answers,
+    )
+}
+
+// Room for 80 records of one block of 64 rows.
+fn in_5120_ranks(
+    table: &[u8],
+    columns: usize,
+    rows: &[i32],
+    n: usize,
+    stride: usize,
+    term: u8,
+    group: u8,
+    answers: &mut [u16],
+) -> u16
+    requires { ⌜ AskedRows (now table) columns term (now rows) n × StrideFor term stride × Room n stride 5120
+        × (n ≤ length (now answers)) ⌝ }
+    ensures { λ r. ⌜ Selected (beatsIn (termAt (now (table .entry)) term) columns (now (rows .entry)) group) n
+        (now (answers .entry)) (now (answers .exit)) r ⌝ }
+{
+    let mut ranks = [0i32; 5120];
     prepared(
         table,
         columns,
@@ -283,7 +351,7 @@ fn in_131072_ranks(
     )
 }
 
-// Prepares the table's values, what each record tells of the term and what it does, the marks, and the rows' ranks.
+// Prepares where the values of terms end and, if there are edges, what they reach.
 fn prepared(
     table: &[u8],
     columns: usize,
@@ -300,18 +368,112 @@ fn prepared(
     ensures { λ r. ⌜ Selected (beatsIn (termAt (now (table .entry)) term) columns (now (rows .entry)) group) n
         (now (answers .entry)) (now (answers .exit)) r ⌝ }
 {
-    let a = numbers(table);
     let e = run_ends(table);
-    let g = closures(table, &e);
+    if has_explicit(table) {
+        return with_edges(
+            table,
+            &e,
+            columns,
+            rows,
+            n,
+            stride,
+            term,
+            group,
+            ranks,
+            answers,
+        );
+    }
+    let none = [[false; 32]; 1];
+    compared(
+        table,
+        &e,
+        &none,
+        columns,
+        rows,
+        n,
+        stride,
+        term,
+        group,
+        ranks,
+        answers,
+    )
+}
+
+// What edges reach takes 8 KiB: apart, so that a table without edges need not clear them.
+fn with_edges(
+    table: &[u8],
+    ends: &[u8; 128],
+    columns: usize,
+    rows: &[i32],
+    n: usize,
+    stride: usize,
+    term: u8,
+    group: u8,
+    ranks: &mut [i32],
+    answers: &mut [u16],
+) -> u16
+    requires { ⌜ AskedRows (now table) columns term (now rows) n × StrideFor term stride × Room n stride (length (now ranks))
+        × (n ≤ length (now answers)) × RunEnds (now table) (now ends) ⌝ }
+    ensures { λ r. ⌜ Selected (beatsIn (termAt (now (table .entry)) term) columns (now (rows .entry)) group) n
+        (now (answers .entry)) (now (answers .exit)) r ⌝ }
+{
+    let mut g = [[false; 32]; 256];
+    fill_closures(table, ends, &mut g);
+    compared(
+        table,
+        ends,
+        &g,
+        columns,
+        rows,
+        n,
+        stride,
+        term,
+        group,
+        ranks,
+        answers,
+    )
+}
+
+// Prepares the numbers, what each record tells of the term and what it does, the marks, and the rows' ranks.
+fn compared(
+    table: &[u8],
+    ends: &[u8; 128],
+    reach: &[[bool; 32]],
+    columns: usize,
+    rows: &[i32],
+    n: usize,
+    stride: usize,
+    term: u8,
+    group: u8,
+    ranks: &mut [i32],
+    answers: &mut [u16],
+) -> u16
+    requires { ⌜ AskedRows (now table) columns term (now rows) n × StrideFor term stride × Room n stride (length (now ranks))
+        × (n ≤ length (now answers)) × RunEnds (now table) (now ends) × Reached (now table) (now ends) (now reach) ⌝ }
+    ensures { λ r. ⌜ Selected (beatsIn (termAt (now (table .entry)) term) columns (now (rows .entry)) group) n
+        (now (answers .entry)) (now (answers .exit)) r ⌝ }
+{
+    let a = numbers(table);
     let x = exits(table, &a, term);
     let marks = beneath(table, &a, &x, term);
     let o = ops(table, &a, term);
-    fill_ranks(table, &a, &e, &marks, term, columns, rows, n, stride, ranks);
+    fill_ranks(
+        table,
+        &a,
+        ends,
+        &marks,
+        term,
+        columns,
+        rows,
+        n,
+        stride,
+        ranks,
+    );
     by_pairs(
         table,
         &o,
-        &e,
-        &g,
+        ends,
+        reach,
         &marks,
         &x,
         term,
@@ -325,12 +487,12 @@ fn prepared(
     )
 }
 
-// Which rows are gone, and by which; then the kept rows and the answers.
+// Few rows need little room, and clearing more would cost as much as they do.
 fn by_pairs(
     table: &[u8],
     ops: &[u8; 512],
     ends: &[u8; 128],
-    reach: &[[bool; 32]; 256],
+    reach: &[[bool; 32]],
     marks: &[bool; 128],
     exits: &[u8; 128],
     term: u8,
@@ -347,12 +509,79 @@ fn by_pairs(
     ensures { λ r. ⌜ Selected (beatsIn (termAt (now (table .entry)) term) columns (now (rows .entry)) group) n
         (now (answers .entry)) (now (answers .exit)) r ⌝ }
 {
-    let mut gone = [0u8; 1024];
-    let mut by = [0u16; 1024];
-    let mut codes = [0u8; 128];
+    if n <= 64 {
+        let mut keys = [0u8; 64];
+        fill_keys(group, columns, rows, n, &mut keys);
+        let mut gone = [0u8; 64];
+        let mut by = [0u16; 64];
+        let mut kept = [0u16; 64];
+        return settled(
+            table,
+            ops,
+            ends,
+            reach,
+            marks,
+            exits,
+            term,
+            group,
+            columns,
+            rows,
+            n,
+            stride,
+            ranks,
+            &keys,
+            &mut gone,
+            &mut by,
+            &mut kept,
+            answers,
+        );
+    }
+    of_many_rows(
+        table,
+        ops,
+        ends,
+        reach,
+        marks,
+        exits,
+        term,
+        group,
+        columns,
+        rows,
+        n,
+        stride,
+        ranks,
+        answers,
+    )
+}
+
+// Room for 1,024 rows.
+fn of_many_rows(
+    table: &[u8],
+    ops: &[u8; 512],
+    ends: &[u8; 128],
+    reach: &[[bool; 32]],
+    marks: &[bool; 128],
+    exits: &[u8; 128],
+    term: u8,
+    group: u8,
+    columns: usize,
+    rows: &[i32],
+    n: usize,
+    stride: usize,
+    ranks: &[i32],
+    answers: &mut [u16],
+) -> u16
+    requires { ⌜ Comparable (now table) (now ops) (now ends) (now reach) (now marks) (now exits) term columns (now rows) n stride
+        (now ranks) × (n ≤ length (now answers)) ⌝ }
+    ensures { λ r. ⌜ Selected (beatsIn (termAt (now (table .entry)) term) columns (now (rows .entry)) group) n
+        (now (answers .entry)) (now (answers .exit)) r ⌝ }
+{
     let mut keys = [0u8; 1024];
     fill_keys(group, columns, rows, n, &mut keys);
-    eliminate(
+    let mut gone = [0u8; 1024];
+    let mut by = [0u16; 1024];
+    let mut kept = [0u16; 1024];
+    settled(
         table,
         ops,
         ends,
@@ -369,10 +598,59 @@ fn by_pairs(
         &keys,
         &mut gone,
         &mut by,
+        &mut kept,
+        answers,
+    )
+}
+
+// Which rows are gone, and by which; then the kept rows and the answers.
+fn settled(
+    table: &[u8],
+    ops: &[u8; 512],
+    ends: &[u8; 128],
+    reach: &[[bool; 32]],
+    marks: &[bool; 128],
+    exits: &[u8; 128],
+    term: u8,
+    group: u8,
+    columns: usize,
+    rows: &[i32],
+    n: usize,
+    stride: usize,
+    ranks: &[i32],
+    keys: &[u8],
+    gone: &mut [u8],
+    by: &mut [u16],
+    kept: &mut [u16],
+    answers: &mut [u16],
+) -> u16
+    requires { ⌜ Comparable (now table) (now ops) (now ends) (now reach) (now marks) (now exits) term columns (now rows) n stride
+        (now ranks) × (n ≤ length (now answers)) × (n ≤ length (now keys)) × Keyed group columns (now rows) n (now keys)
+        × Cleared n (now gone) (length (now by)) (length (now kept)) ⌝ }
+    ensures { λ r. ⌜ Selected (beatsIn (termAt (now (table .entry)) term) columns (now (rows .entry)) group) n
+        (now (answers .entry)) (now (answers .exit)) r ⌝ }
+{
+    let mut codes = [0u8; 128];
+    eliminate(
+        table,
+        ops,
+        ends,
+        reach,
+        marks,
+        exits,
+        term,
+        group,
+        columns,
+        rows,
+        n,
+        stride,
+        ranks,
+        keys,
+        gone,
+        by,
         &mut codes,
     );
-    let mut kept = [0u16; 1024];
-    let m = list_kept(n, &gone, &mut kept);
+    let m = list_kept(n, gone, kept);
     write_answers(
         table,
         ops,
@@ -387,9 +665,9 @@ fn by_pairs(
         n,
         stride,
         ranks,
-        &gone,
-        &by,
-        &kept,
+        gone,
+        by,
+        kept,
         m,
         &mut codes,
         answers,

@@ -1,4 +1,4 @@
--- What a loop over the 64 lanes of a block writes.
+-- What a loop over lanes writes.
 pub mod Wrote
 pub mod Writes
 pub mod Lanes

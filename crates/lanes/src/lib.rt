@@ -1,2 +1,2 @@
-// Codes of one row against the 64 rows of a block.
+// Codes of one row against the rows of a block or a square.
 pub mod vetted;

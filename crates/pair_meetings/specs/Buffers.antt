@@ -1,9 +1,10 @@
 -- What the direct engine keeps while rows meet.
 use mathlib.Core.Path.{_≡_}
-use Prim.Native.Nat.{ℕ}
+use Prim.Native.Nat.{ℕ, _≤_}
 
--- Room for 1,024 rows that are gone and the rows that beat them, and for a code of each record.
-pub record Buffers (gone by codes : ℕ) : Type 0 where
-  pub ofGone : gone ≡ 1024
-  pub ofBy : by ≡ 1024
+-- Room for n rows that are gone, the rows that beat them and the rows' keys, and for a code of each record.
+pub record Buffers (n gone by keys codes : ℕ) : Type 0 where
+  pub ofGone : n ≤ gone
+  pub ofBy : n ≤ by
+  pub ofKeys : n ≤ keys
   pub ofCodes : codes ≡ 128

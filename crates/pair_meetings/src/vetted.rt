@@ -19,7 +19,7 @@ pub fn meet(
     table: &[u8],
     ops: &[u8; 512],
     ends: &[u8; 128],
-    reach: &[[bool; 32]; 256],
+    reach: &[[bool; 32]],
     marks: &[bool; 128],
     exits: &[u8; 128],
     term: u8,
@@ -29,7 +29,7 @@ pub fn meet(
     n: usize,
     stride: usize,
     ranks: &[i32],
-    keys: &[u8; 1024],
+    keys: &[u8],
     i: usize,
     j: usize,
     gone: &mut [u8],
@@ -38,7 +38,7 @@ pub fn meet(
 ) -> bool
     requires { ⌜ Comparable (now table) (now ops) (now ends) (now reach) (now marks) (now exits) term columns (now rows) n stride
         (now ranks)
-        × (i < n) × (j < n) × Buffers (length (now gone)) (length (now by)) (length (now codes))
+        × (i < n) × (j < n) × Buffers n (length (now gone)) (length (now by)) (length (now keys)) (length (now codes))
         × Turn (beatsIn (termAt (now table) term) columns (now rows) group) n i j (now gone)
         × Beaten (beatsIn (termAt (now table) term) columns (now rows) group) n (now gone) (now by)
         × Keyed group columns (now rows) n (now keys) ⌝ }

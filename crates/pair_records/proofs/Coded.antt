@@ -20,18 +20,16 @@ use Rattle.model.specs.Term.{termAt}
 use Rattle.model.specs.Bytes.{eqZ}
 use Rattle.model.specs.Better.{Row, cell}
 use Rattle.laws.specs.Bools.{on-or-off}
-use Rattle.laws.specs.Sound.{soundBase, sound}
 use Rattle.laws.specs.Runs.{valuesBetween}
-use Rattle.laws.specs.Outcome.{outcome-base}
-use Rattle.laws.specs.Codes.{codeOf, code, joinedCode, pair-code, dual-code}
-use Rattle.laws.specs.ValueCodes.{testsCode, apartCode, valueCode}
+use Rattle.laws.specs.Codes.{code, joinedCode}
+use Rattle.laws.specs.ValueCodes.{testsCode, apartCode}
 use Rattle.laws.specs.Accepted.{Accepted}
 use Rattle.laws.specs.AcceptedTable.{accepted-table}
-use Rattle.laws.specs.AcceptedKinds.{AcceptedBase, accepted-base, accepted-joined, accepted-dual}
-use Rattle.laws.specs.AcceptedTerms.{accepted-sound}
+use Rattle.laws.specs.AcceptedKinds.{accepted-base, accepted-joined, accepted-dual}
 use Rattle.values.specs.Prepared.{Run}
 use Rattle.cells.specs.Places.{row-length, place-in}
-use Rattle.base_terms.proofs.Coded.{same-code, other-code}
+use Rattle.classes.specs.Coded.{same-code, other-code}
+use Rattle.beneath.specs.Codes.{of-base, base-sound, base-code-is, joined-code-is, dual-code-is}
 use Rattle.rank.specs.Rank.{RankAt}
 use Rattle.rank.specs.ByRank.{isExplicit, rank-is, by-rank}
 use Rattle.ops.specs.Ops.{opOf, leftOf, rightOf, baseOp, pairOp, OpAt}
@@ -147,15 +145,8 @@ module _ {table ops ends : List ℕ} {reach : List (List Bool)} {marks : List Bo
     rank-place {i} r = place-in n stride (ready .rankRoom) i k (r .below) (omega (arith, at .most, ready .wide))
 
     module _ {column : ℕ} {b : BaseTerm} (is : recordAt table k ≡ Base column b) where
-      of-base : AcceptedBase table columns k column b
-      of-base = accepted-base table columns ok k below column b is
-
       pub column-in : {i : ℕ} {row : Row} → RowOf columns rows n i row → column < length row
-      column-in r = rw (row-is r) (of-base .below)
-
-      is-sound : soundBase b (valuesBetween table k (getD ends k 0)) ≡ true
-      unfolding sound
-      is-sound = rw (of-base .equation, run .all) at (accepted-sound table columns ok k below (ap isTerm is) .0)
+      column-in r = rw (row-is r) (of-base ok below is .below)
 
       rank-of : {i : ℕ} {row : Row} → RowOf columns rows n i row
           → RankAt table k (getD ends k 0) b (cell row column) (getD ranks (i / 64 * stride + k * 64 + i % 64) (pos 0))
@@ -165,36 +156,27 @@ module _ {table ops ends : List ℕ} {reach : List (List Bool)} {marks : List Bo
           (rw q at
           (ready .ranked .each (i / 64) (i % 64) k column b (omega arith) (omega (arith, r .below)) (omega (arith, at .most)) (at .marked) is))
 
-      -- Two rows' values with their ranks,
+      -- Two rows' values with their ranks.
       pub two-ranked : {i j : ℕ} {x y : Row} → RowOf columns rows n i x → RowOf columns rows n j y
           → TwoRanked table reach k (getD ends k 0) b (cell x column) (cell y column)
           (getD ranks (i / 64 * stride + k * 64 + i % 64) (pos 0)) (getD ranks (j / 64 * stride + k * 64 + j % 64) (pos 0))
       two-ranked r s =
           record {
             values = run .values;
-            isSound = is-sound;
+            isSound = base-sound ok below is run;
             reached = λ q. ready .reached .each k column below (rw q at is);
             first = rank-of r;
             second = rank-of s;
           }
 
-      -- and their code.
-      pub base-code-is : (x y : Row)
-          → valueCode b (valuesBetween table k (getD ends k 0)) (cell x column) (cell y column) ≡ code (termAt table k) x y
-      unfolding valueCode testsCode
-      base-code-is x y =
-          let w : column < 8 = omega (arith, of-base .below, accepted-table table columns ok .fewColumns) in
-          rw (of-base .equation, run .all)
-          (sym (ap codeOf (outcome-base column b (valuesBetween table k (getD ends k 0)) w x y)))
-
       -- Equal values are the same,
       pub same-is : (x y : Row) → eqZ (cell x column) (cell y column) ≡ true → 0 ≡ code (termAt table k) x y
       same-is x y e =
-          same-code b (valuesBetween table k (getD ends k 0)) (cell x column) (cell y column) e ∙ base-code-is x y
+          same-code b (valuesBetween table k (getD ends k 0)) (cell x column) (cell y column) e ∙ base-code-is ok below is run x y
 
       module _ (x y : Row) (apart : eqZ (cell x column) (cell y column) ≡ false) where
         other : apartCode b (valuesBetween table k (getD ends k 0)) (cell x column) (cell y column) ≡ code (termAt table k) x y
-        other = other-code b (valuesBetween table k (getD ends k 0)) (cell x column) (cell y column) apart ∙ base-code-is x y
+        other = other-code b (valuesBetween table k (getD ends k 0)) (cell x column) (cell y column) apart ∙ base-code-is ok below is run x y
 
         -- others go by rank,
         pub ranked-is : isExplicit b ≡ false → {i j : ℕ} → RowOf columns rows n i x → RowOf columns rows n j y
@@ -209,7 +191,7 @@ module _ {table ops ends : List ℕ} {reach : List (List Bool)} {marks : List Bo
             let e = getD ends k 0 in
             let values = valuesBetween table k e in
             rw (rank-is table k e b h v _ (rank-of r), rank-is table k e b h w _ (rank-of s))
-            (rw (by-rank values b is-sound h w v, by-rank values b is-sound h v w) at other)
+            (rw (by-rank values b (base-sound ok below is run) h w v, by-rank values b (base-sound ok below is run) h v w) at other)
 
         -- and EXPLICIT's by its edges.
         pub explicit-code-is : b ≡ Explicit
@@ -231,16 +213,13 @@ module _ {table ops ends : List ℕ} {reach : List (List Bool)} {marks : List Bo
     unfolding opCode
     compound-code-is (Joined op p q) is x y codes r =
         let a = accepted-joined table columns ok k below op p q is in
-        let s = accepted-sound table columns ok k below (ap isTerm is) in
         let m = ready .marked .parts k (Joined op p q) (omega arith) (at .most) (at .marked) is in
         op-joins op (getD codes p 0) (getD codes q 0)
-        ∙ rw (r .each p (a .left) (m .0) (a .leftTerm), r .each q (a .right) (m .1) (a .rightTerm), a .equation)
-        (sym (pair-code op (termAt table p) (termAt table q) (rw (a .equation) at (s .0)) (rw (a .equation) at (s .1)) x y))
+        ∙ joined-code-is ok below is x y (r .each p (a .left) (m .0) (a .leftTerm)) (r .each q (a .right) (m .1) (a .rightTerm))
     compound-code-is (Dual p) is x y codes r =
         let a = accepted-dual table columns ok k below p is in
-        let s = accepted-sound table columns ok p (omega (arith, below, a .part)) (a .partTerm) in
         let m = ready .marked .parts k (Dual p) (omega arith) (at .most) (at .marked) is in
-        rw (r .each p (a .part) m (a .partTerm), a .equation) (sym (dual-code (termAt table p) (s .0) (s .1) x y))
+        dual-code-is ok below is x y (r .each p (a .part) m (a .partTerm))
 
     module _ (l : 2 ≤ getD ops (4 * k) 0) where
       -- The same by its entries.

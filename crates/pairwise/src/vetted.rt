@@ -17,7 +17,7 @@ pub fn eliminate(
     table: &[u8],
     ops: &[u8; 512],
     ends: &[u8; 128],
-    reach: &[[bool; 32]; 256],
+    reach: &[[bool; 32]],
     marks: &[bool; 128],
     exits: &[u8; 128],
     term: u8,
@@ -27,14 +27,14 @@ pub fn eliminate(
     n: usize,
     stride: usize,
     ranks: &[i32],
-    keys: &[u8; 1024],
+    keys: &[u8],
     gone: &mut [u8],
     by: &mut [u16],
     codes: &mut [u8; 128],
 )
     requires { ⌜ Comparable (now table) (now ops) (now ends) (now reach) (now marks) (now exits) term columns (now rows) n stride
         (now ranks)
-        × Buffers (length (now gone)) (length (now by)) (length (now codes))
+        × Buffers n (length (now gone)) (length (now by)) (length (now keys)) (length (now codes))
         × Rounds (beatsIn (termAt (now table) term) columns (now rows) group) n 0 (now gone)
         × Beaten (beatsIn (termAt (now table) term) columns (now rows) group) n (now gone) (now by)
         × Keyed group columns (now rows) n (now keys) ⌝ }
@@ -74,7 +74,7 @@ fn round_or_skip(
     table: &[u8],
     ops: &[u8; 512],
     ends: &[u8; 128],
-    reach: &[[bool; 32]; 256],
+    reach: &[[bool; 32]],
     marks: &[bool; 128],
     exits: &[u8; 128],
     term: u8,
@@ -84,7 +84,7 @@ fn round_or_skip(
     n: usize,
     stride: usize,
     ranks: &[i32],
-    keys: &[u8; 1024],
+    keys: &[u8],
     i: usize,
     gone: &mut [u8],
     by: &mut [u16],
@@ -92,7 +92,7 @@ fn round_or_skip(
 )
     requires { ⌜ Comparable (now table) (now ops) (now ends) (now reach) (now marks) (now exits) term columns (now rows) n stride
         (now ranks)
-        × (i < n) × Buffers (length (now gone)) (length (now by)) (length (now codes))
+        × (i < n) × Buffers n (length (now gone)) (length (now by)) (length (now keys)) (length (now codes))
         × Rounds (beatsIn (termAt (now table) term) columns (now rows) group) n i (now gone)
         × Beaten (beatsIn (termAt (now table) term) columns (now rows) group) n (now gone) (now by)
         × Keyed group columns (now rows) n (now keys) ⌝ }
@@ -130,7 +130,7 @@ fn round(
     table: &[u8],
     ops: &[u8; 512],
     ends: &[u8; 128],
-    reach: &[[bool; 32]; 256],
+    reach: &[[bool; 32]],
     marks: &[bool; 128],
     exits: &[u8; 128],
     term: u8,
@@ -140,7 +140,7 @@ fn round(
     n: usize,
     stride: usize,
     ranks: &[i32],
-    keys: &[u8; 1024],
+    keys: &[u8],
     i: usize,
     gone: &mut [u8],
     by: &mut [u16],
@@ -148,7 +148,7 @@ fn round(
 )
     requires { ⌜ Comparable (now table) (now ops) (now ends) (now reach) (now marks) (now exits) term columns (now rows) n stride
         (now ranks)
-        × (i < n) × Buffers (length (now gone)) (length (now by)) (length (now codes))
+        × (i < n) × Buffers n (length (now gone)) (length (now by)) (length (now keys)) (length (now codes))
         × Rounds (beatsIn (termAt (now table) term) columns (now rows) group) n i (now gone)
         × Beaten (beatsIn (termAt (now table) term) columns (now rows) group) n (now gone) (now by)
         × Keyed group columns (now rows) n (now keys) ⌝ }

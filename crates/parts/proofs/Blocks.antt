@@ -7,12 +7,6 @@ use native.Mathlib.Nat.{mul-le-mul-right}
 use native.Mathlib.Omega.{arith}
 use lib.IntN.{ℤ}
 use lib.ListN.{length}
-use Rattle.model.specs.Term.{termAt}
-use Rattle.model.specs.Query.{beatsIn}
-use Rattle.laws.specs.Order.{Strict}
-use Rattle.laws.specs.Rows.{beats-strict}
-use Rattle.laws.specs.Strict.{ordered}
-use Rattle.laws.specs.Taken.{TakenTerm, taken-sound}
 use Rattle.values.specs.Prepared.{Numbers, RunEnds, Reached}
 use Rattle.exit_parts.specs.Exits.{Exits}
 use Rattle.cells.specs.Values.{Room, Valued}
@@ -21,13 +15,6 @@ use Rattle.ranks.specs.Ranked.{Ranked}
 use Rattle.blocks.specs.Blocks.{Ready}
 use Rattle.selection.specs.Selected.{AskedRows, StrideFor}
 use Rattle.selection.specs.Ranks.{room-for}
-
--- The asked term orders the rows of a set strictly.
-pub strict-rows : {table : List ℕ} {columns term : ℕ} → TakenTerm table columns term → (rows : List ℤ) (group : ℕ)
-    → Strict (beatsIn (termAt table term) columns rows group)
-strict-rows {table} {columns} {term} t rows group =
-    let s = taken-sound table columns term t in
-    beats-strict columns rows group (termAt table term) (ordered (termAt table term) (s .0) (s .1) .strict)
 
 module _ {table : List ℕ} {columns term : ℕ} {rows : List ℤ} {n stride : ℕ}
     (asked : AskedRows table columns term rows n) (strides : StrideFor term stride) where

@@ -7,11 +7,13 @@ use entries::vetted::first_names;
 use entries::vetted::none_gone;
 use entries::vetted::write_answers;
 use exits::vetted::exits;
+use few_rows::vetted::of_few_rows;
 use keys::vetted::fill_keys;
 use naming::vetted::name;
 use ranks::vetted::fill_ranks;
 use rounds::vetted::meetings::eliminate;
-use values::vetted::prepared::closures;
+use values::vetted::prepared::fill_closures;
+use values::vetted::prepared::has_explicit;
 use values::vetted::prepared::numbers;
 use values::vetted::prepared::run_ends;
 ghost use mathlib.Core.Path.{_≡_};
@@ -20,6 +22,7 @@ ghost use lib.ListN.{length};
 ghost use Rattle.model.specs.Term.{termAt};
 ghost use Rattle.model.specs.Query.{beatsIn, rowCount};
 ghost use Rattle.laws.specs.Taken.{Taken};
+ghost use Rattle.values.specs.Prepared.{RunEnds, Reached};
 ghost use Rattle.elimination.specs.Elimination.{Settled};
 ghost use Rattle.elimination.specs.Firsts.{Firsts};
 ghost use Rattle.keys.specs.Keys.{Keyed};
@@ -44,6 +47,9 @@ pub fn selected(
 {
     let n = rows.len() / columns;
     let stride = (term as usize) * 64 + 64;
+    if n <= 16 {
+        return of_few_rows(table, columns, rows, n, term, group, answers);
+    }
     if n <= 64 {
         return in_one_block(table, columns, rows, n, stride, term, group, answers);
     }
@@ -366,7 +372,7 @@ fn in_131072_ranks(
     )
 }
 
-// Prepares the table's values, the marks beneath the term, the outcomes that decide it, and the rows' cells and ranks.
+// Prepares where the values of terms end and, if there are edges, what they reach.
 fn prepared(
     table: &[u8],
     columns: usize,
@@ -384,18 +390,118 @@ fn prepared(
     ensures { λ r. ⌜ Selected (beatsIn (termAt (now (table .entry)) term) columns (now (rows .entry)) group) n
         (now (answers .entry)) (now (answers .exit)) r ⌝ }
 {
-    let a = numbers(table);
     let e = run_ends(table);
-    let g = closures(table, &e);
+    if has_explicit(table) {
+        return with_edges(
+            table,
+            &e,
+            columns,
+            rows,
+            n,
+            stride,
+            term,
+            group,
+            ranks,
+            cells,
+            answers,
+        );
+    }
+    let none = [[false; 32]; 1];
+    ranked(
+        table,
+        &e,
+        &none,
+        columns,
+        rows,
+        n,
+        stride,
+        term,
+        group,
+        ranks,
+        cells,
+        answers,
+    )
+}
+
+// What edges reach takes 8 KiB: apart, so that a table without edges need not clear them.
+fn with_edges(
+    table: &[u8],
+    ends: &[u8; 128],
+    columns: usize,
+    rows: &[i32],
+    n: usize,
+    stride: usize,
+    term: u8,
+    group: u8,
+    ranks: &mut [i32],
+    cells: &mut [i32],
+    answers: &mut [u16],
+) -> u16
+    requires { ⌜ AskedRows (now table) columns term (now rows) n × StrideFor term stride × Room n stride (length (now ranks))
+        × Room n 512 (length (now cells)) × (n ≤ length (now answers)) × RunEnds (now table) (now ends) ⌝ }
+    ensures { λ r. ⌜ Selected (beatsIn (termAt (now (table .entry)) term) columns (now (rows .entry)) group) n
+        (now (answers .entry)) (now (answers .exit)) r ⌝ }
+{
+    let mut g = [[false; 32]; 256];
+    fill_closures(table, ends, &mut g);
+    ranked(
+        table,
+        ends,
+        &g,
+        columns,
+        rows,
+        n,
+        stride,
+        term,
+        group,
+        ranks,
+        cells,
+        answers,
+    )
+}
+
+// Prepares the numbers, the outcomes that decide the term, the marks beneath it, and the rows' cells and ranks.
+fn ranked(
+    table: &[u8],
+    ends: &[u8; 128],
+    reach: &[[bool; 32]],
+    columns: usize,
+    rows: &[i32],
+    n: usize,
+    stride: usize,
+    term: u8,
+    group: u8,
+    ranks: &mut [i32],
+    cells: &mut [i32],
+    answers: &mut [u16],
+) -> u16
+    requires { ⌜ AskedRows (now table) columns term (now rows) n × StrideFor term stride × Room n stride (length (now ranks))
+        × Room n 512 (length (now cells)) × (n ≤ length (now answers)) × RunEnds (now table) (now ends)
+        × Reached (now table) (now ends) (now reach) ⌝ }
+    ensures { λ r. ⌜ Selected (beatsIn (termAt (now (table .entry)) term) columns (now (rows .entry)) group) n
+        (now (answers .entry)) (now (answers .exit)) r ⌝ }
+{
+    let a = numbers(table);
     let x = exits(table, &a, term);
     let marks = beneath(table, &a, &x, term);
     fill_values(columns, rows, n, cells);
-    fill_ranks(table, &a, &e, &marks, term, columns, rows, n, stride, ranks);
+    fill_ranks(
+        table,
+        &a,
+        ends,
+        &marks,
+        term,
+        columns,
+        rows,
+        n,
+        stride,
+        ranks,
+    );
     by_blocks(
         table,
         &a,
-        &e,
-        &g,
+        ends,
+        reach,
         &marks,
         &x,
         term,
@@ -415,7 +521,7 @@ fn by_blocks(
     table: &[u8],
     numbers: &[i32; 256],
     ends: &[u8; 128],
-    reach: &[[bool; 32]; 256],
+    reach: &[[bool; 32]],
     marks: &[bool; 128],
     exits: &[u8; 128],
     term: u8,
@@ -487,7 +593,7 @@ fn named(
     table: &[u8],
     numbers: &[i32; 256],
     ends: &[u8; 128],
-    reach: &[[bool; 32]; 256],
+    reach: &[[bool; 32]],
     marks: &[bool; 128],
     exits: &[u8; 128],
     term: u8,

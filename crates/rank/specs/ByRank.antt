@@ -129,6 +129,22 @@ rank-is table k e PosPos h y r q = q
 rank-is table k e Explicit h y r q = absurd (true≢false h)
 rank-is table k e Any h y r q = q
 
+module _ (table : List ℕ) (k e : ℕ) (t : BaseTerm) (h : isExplicit t ≡ false)
+    (s : soundBase t (valuesBetween table k e) ≡ true) where
+  -- The code of two values by ranks as they are held,
+  pub ranks-code : (v w x y : ℤ) → RankAt table k e t v x → RankAt table k e t w y
+      → testsCode (eqZ v w) (ltZ x y) (ltZ y x) ≡ valueCode t (valuesBetween table k e) v w
+  ranks-code v w x y p q =
+      rw (rank-is table k e t h v x p, rank-is table k e t h w y q) (sym (rank-code t (valuesBetween table k e) s h v w))
+
+  -- and by ranks alone, where equal ranks are equal values.
+  pub order-code : ((y z : ℤ) → eqZ (rankOf t (valuesBetween table k e) y) (rankOf t (valuesBetween table k e) z) ≡ eqZ y z)
+      → (v w x y : ℤ) → RankAt table k e t v x → RankAt table k e t w y
+      → testsCode (eqZ x y) (ltZ x y) (ltZ y x) ≡ valueCode t (valuesBetween table k e) v w
+  order-code same v w x y p q =
+      rw (rank-is table k e t h v x p, rank-is table k e t h w y q, same v w)
+      (sym (rank-code t (valuesBetween table k e) s h v w))
+
 -- No other term is EXPLICIT.
 pub explicit-is : (t : BaseTerm) → isExplicit t ≡ true → t ≡ Explicit
 unfolding isExplicit

@@ -4,8 +4,13 @@ use cells::vetted::copy_stretch;
 use model::BaseTerm;
 use rank::vetted::around_rank;
 use rank::vetted::between_rank;
-use rank::vetted::rank;
+use value_lanes::vetted::one_role;
+use value_lanes::vetted::places;
+use value_lanes::vetted::put_all;
+use value_lanes::vetted::two_roles;
+ghost use Prim.Native.Nat.{_≤_};
 ghost use lib.ListN.{length};
+ghost use Rattle.model.specs.declared.BaseTerm.the-variants.{Pos, Neg, PosNeg, PosPos, Explicit};
 ghost use Rattle.terms.specs.Run.{Values};
 ghost use Rattle.values.specs.Prepared.{Numbers};
 ghost use Rattle.cells.specs.Stretch.{Stretch, StretchIn};
@@ -25,7 +30,7 @@ pub fn fill_stretch(
     at: usize,
     ranks: &mut [i32],
 )
-    requires { ⌜ Values (now table) k e × Numbers (now table) (now numbers)
+    requires { ⌜ Values (now table) k e × Numbers (now table) (now numbers) × (m ≤ 64)
         × StretchIn columns (length (now rows)) from m at (length (now ranks)) ⌝ }
     ensures { λ _. ⌜ Stretch (RankAt (now (table .entry)) k e b) columns (now (rows .entry)) from m at
         (now (ranks .entry)) (now (ranks .exit)) ⌝ }
@@ -35,12 +40,12 @@ pub fn fill_stretch(
         BaseTerm::Highest => mirror_stretch(columns, rows, from, m, at, ranks),
         BaseTerm::Around(wish) => around_stretch(wish, columns, rows, from, m, at, ranks),
         BaseTerm::Between(low, up) => between_stretch(low, up, columns, rows, from, m, at, ranks),
-        BaseTerm::Pos
-        | BaseTerm::Neg
-        | BaseTerm::PosNeg
-        | BaseTerm::PosPos
-        | BaseTerm::Explicit
-        | BaseTerm::Any => rank_rows(table, numbers, k, e, b, columns, rows, from, m, at, ranks),
+        BaseTerm::Pos => pos_ranks(table, numbers, k, e, columns, rows, from, m, at, ranks),
+        BaseTerm::Neg => neg_ranks(table, numbers, k, e, columns, rows, from, m, at, ranks),
+        BaseTerm::PosNeg => pos_neg_ranks(table, numbers, k, e, columns, rows, from, m, at, ranks),
+        BaseTerm::PosPos => pos_pos_ranks(table, numbers, k, e, columns, rows, from, m, at, ranks),
+        BaseTerm::Explicit => place_ranks(table, numbers, k, e, columns, rows, from, m, at, ranks),
+        BaseTerm::Any => put_all(0, m, at, ranks),
     }
 }
 
@@ -97,13 +102,12 @@ fn between_stretch(
     }
 }
 
-// The other kinds, each row by itself.
-fn rank_rows(
+// POS: favourites 0, others 1. The cells first, so that each value goes over all of them.
+fn pos_ranks(
     table: &[u8],
     numbers: &[i32; 256],
     k: u8,
     e: u8,
-    b: BaseTerm,
     columns: usize,
     rows: &[i32],
     from: usize,
@@ -111,14 +115,104 @@ fn rank_rows(
     at: usize,
     ranks: &mut [i32],
 )
-    requires { ⌜ Values (now table) k e × Numbers (now table) (now numbers)
+    requires { ⌜ Values (now table) k e × Numbers (now table) (now numbers) × (m ≤ 64)
         × StretchIn columns (length (now rows)) from m at (length (now ranks)) ⌝ }
-    ensures { λ _. ⌜ Stretch (RankAt (now (table .entry)) k e b) columns (now (rows .entry)) from m at
+    ensures { λ _. ⌜ Stretch (RankAt (now (table .entry)) k e Pos) columns (now (rows .entry)) from m at
         (now (ranks .entry)) (now (ranks .exit)) ⌝ }
 {
-    let mut j = 0;
-    while j < m {
-        ranks[at + j] = rank(table, numbers, k, e, b, rows[from + j * columns]);
-        j += 1;
-    }
+    let mut cells = [0i32; 64];
+    copy_stretch(columns, rows, from, m, 0, &mut cells);
+    one_role(table, numbers, k, e, 1, 1, 0, &cells, m, at, ranks);
+}
+
+// NEG: others 0, disliked 1.
+fn neg_ranks(
+    table: &[u8],
+    numbers: &[i32; 256],
+    k: u8,
+    e: u8,
+    columns: usize,
+    rows: &[i32],
+    from: usize,
+    m: usize,
+    at: usize,
+    ranks: &mut [i32],
+)
+    requires { ⌜ Values (now table) k e × Numbers (now table) (now numbers) × (m ≤ 64)
+        × StretchIn columns (length (now rows)) from m at (length (now ranks)) ⌝ }
+    ensures { λ _. ⌜ Stretch (RankAt (now (table .entry)) k e Neg) columns (now (rows .entry)) from m at
+        (now (ranks .entry)) (now (ranks .exit)) ⌝ }
+{
+    let mut cells = [0i32; 64];
+    copy_stretch(columns, rows, from, m, 0, &mut cells);
+    one_role(table, numbers, k, e, 0, 2, 1, &cells, m, at, ranks);
+}
+
+// POS/NEG: favourites 0, others 1, disliked 2.
+fn pos_neg_ranks(
+    table: &[u8],
+    numbers: &[i32; 256],
+    k: u8,
+    e: u8,
+    columns: usize,
+    rows: &[i32],
+    from: usize,
+    m: usize,
+    at: usize,
+    ranks: &mut [i32],
+)
+    requires { ⌜ Values (now table) k e × Numbers (now table) (now numbers) × (m ≤ 64)
+        × StretchIn columns (length (now rows)) from m at (length (now ranks)) ⌝ }
+    ensures { λ _. ⌜ Stretch (RankAt (now (table .entry)) k e PosNeg) columns (now (rows .entry)) from m at
+        (now (ranks .entry)) (now (ranks .exit)) ⌝ }
+{
+    let mut cells = [0i32; 64];
+    copy_stretch(columns, rows, from, m, 0, &mut cells);
+    two_roles(table, numbers, k, e, 1, 2, 2, &cells, m, at, ranks);
+}
+
+// POS/POS: favourites 0, second choices 1, others 2.
+fn pos_pos_ranks(
+    table: &[u8],
+    numbers: &[i32; 256],
+    k: u8,
+    e: u8,
+    columns: usize,
+    rows: &[i32],
+    from: usize,
+    m: usize,
+    at: usize,
+    ranks: &mut [i32],
+)
+    requires { ⌜ Values (now table) k e × Numbers (now table) (now numbers) × (m ≤ 64)
+        × StretchIn columns (length (now rows)) from m at (length (now ranks)) ⌝ }
+    ensures { λ _. ⌜ Stretch (RankAt (now (table .entry)) k e PosPos) columns (now (rows .entry)) from m at
+        (now (ranks .entry)) (now (ranks .exit)) ⌝ }
+{
+    let mut cells = [0i32; 64];
+    copy_stretch(columns, rows, from, m, 0, &mut cells);
+    two_roles(table, numbers, k, e, 2, 3, 1, &cells, m, at, ranks);
+}
+
+// EXPLICIT: a place among the ends of the edges.
+fn place_ranks(
+    table: &[u8],
+    numbers: &[i32; 256],
+    k: u8,
+    e: u8,
+    columns: usize,
+    rows: &[i32],
+    from: usize,
+    m: usize,
+    at: usize,
+    ranks: &mut [i32],
+)
+    requires { ⌜ Values (now table) k e × Numbers (now table) (now numbers) × (m ≤ 64)
+        × StretchIn columns (length (now rows)) from m at (length (now ranks)) ⌝ }
+    ensures { λ _. ⌜ Stretch (RankAt (now (table .entry)) k e Explicit) columns (now (rows .entry)) from m at
+        (now (ranks .entry)) (now (ranks .exit)) ⌝ }
+{
+    let mut cells = [0i32; 64];
+    copy_stretch(columns, rows, from, m, 0, &mut cells);
+    places(table, numbers, k, e, &cells, m, at, ranks);
 }

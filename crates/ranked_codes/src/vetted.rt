@@ -20,7 +20,7 @@ pub fn by_rank(x: i32, y: i32) -> u8
 // By the places of v and w under EXPLICIT term k, whose values are the records from k + 1 to before e.
 pub fn explicit_code(
     table: &[u8],
-    reach: &[[bool; 32]; 256],
+    reach: &[[bool; 32]],
     k: u8,
     e: u8,
     v: i32,

@@ -9,10 +9,14 @@ use lib.Dec.{ltb, eqb}
 use lib.IntN.{ℤ}
 use lib.ListN.{length}
 use borrow.Author.Tests.{eqb-true, ltb-false, not-false}
-use Rattle.model.specs.Query.{rowCount, failsRows}
+use Rattle.model.specs.Term.{termAt}
+use Rattle.model.specs.Query.{rowCount, failsRows, beatsIn}
 use Rattle.laws.specs.Members.{or-off}
+use Rattle.laws.specs.Order.{Strict}
+use Rattle.laws.specs.Rows.{beats-strict}
+use Rattle.laws.specs.Strict.{ordered}
 use Rattle.laws.specs.AcceptedTable.{accepted-table}
-use Rattle.laws.specs.Taken.{TakenTerm, Taken}
+use Rattle.laws.specs.Taken.{TakenTerm, Taken, taken-sound}
 use Rattle.values.specs.Prepared.{Vetted}
 use Rattle.selection.specs.Selected.{AskedRows}
 
@@ -26,6 +30,13 @@ module _ {table : List ℕ} {columns term : ℕ} (t : TakenTerm table columns te
 
   pub term-below : term < 128
   term-below = omega (arith, t .below, accepted-table table columns (t .isAccepted) .fewRecords)
+
+-- The asked term orders the rows of a set strictly.
+pub strict-rows : {table : List ℕ} {columns term : ℕ} → TakenTerm table columns term → (rows : List ℤ) (group : ℕ)
+    → Strict (beatsIn (termAt table term) columns rows group)
+strict-rows {table} {columns} {term} t rows group =
+    let s = taken-sound table columns term t in
+    beats-strict columns rows group (termAt table term) (ordered (termAt table term) (s .0) (s .1) .strict)
 
 -- The rows are whole, and at most 1,024.
 module _ {table : List ℕ} {columns : ℕ} {rows : List ℤ} {term group : ℕ} {before : List ℕ}

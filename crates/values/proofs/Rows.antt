@@ -15,10 +15,10 @@ use Rattle.model.specs.Bytes.{signed}
 use Rattle.model.specs.Record.{recordCount, recordAt, recordOf, kindAt, uAt, vAt, isTerm}
 use Rattle.laws.specs.Bools.{on-or-off}
 use Rattle.laws.specs.Search.{lt-suc-cases}
-use Rattle.laws.specs.Records.{kindNumber, kind-of}
 use Rattle.terms.specs.Run.{Values}
 use Rattle.terms.specs.Closure.{endWord, cellAt, Closure}
 use Rattle.values.specs.Prepared.{numberAt, RunEnds, RowsPut, ReachedFrom}
+use Rattle.values.specs.Edges.{explicit-nine}
 
 -- ---- one array's rows in another
 
@@ -55,11 +55,12 @@ module _ (table : List ℕ) where
       rw (a, b) (⊎-elim (λ e. rw e) (λ e. rw e) (on-or-off (eqb (p % 2) 0)))
 
   -- The closure's rows, put at the places of its ends.
-  rows-reach : (k e : ℕ) (g before after : List (List Bool)) → Values table k e → Closure table k e g
+  rows-reach : (k e : ℕ) (g before after : List (List Bool)) → Values table k e → Closure table k e g → 2 * e ≤ length before
       → RowsPut g (2 * k + 2) (2 * e) before after → ReachedFrom table k e after
   unfolding cellAt
-  rows-reach k e g before after v c r =
+  rows-reach k e g before after v c room r =
       record {
+        rows = rw (r .size) room;
         each = λ p q a b d f.
             let w : p - (2 * k + 2) < 32 = omega (arith, v .few) in
             let z : q - (2 * k + 2) < 32 = omega (arith, v .few) in
@@ -67,18 +68,14 @@ module _ (table : List ℕ) where
       }
 
   -- Rows stay what they were where no row of the run changes.
-  rows-stay : (k e : ℕ) (before after : List (List Bool))
+  rows-stay : (k e : ℕ) (before after : List (List Bool)) → length after ≡ length before
       → ((p : ℕ) → p < 2 * e → getD after p [] ≡ getD before p []) → ReachedFrom table k e before
       → ReachedFrom table k e after
   unfolding cellAt
-  rows-stay k e before after f r = record { each = λ p q a b c d. rw (f p b) (r .each p q a b c d) }
+  rows-stay k e before after size f r =
+      record { rows = rw size (r .rows); each = λ p q a b c d. rw (f p b) (r .each p q a b c d) }
 
-  -- ---- EXPLICIT is kind 9
-
-  explicit-nine : (k column : ℕ) → recordAt table k ≡ Base column Explicit → kindAt table k ≡ 9
-  unfolding kindNumber
-  explicit-nine k column e = kind-of table k (Base column Explicit) e refl
-
+  -- A record of kind 9, which is EXPLICIT's, is a term.
   pub nine-term : (k : ℕ) → kindAt table k ≡ 9 → isTerm (recordAt table k) ≡ true
   unfolding recordAt recordOf
   nine-term k e = rw e
@@ -110,12 +107,12 @@ module _ (table ends : List ℕ) (k : ℕ) where
 
   -- The rows of an EXPLICIT term change no earlier term's.
   pub below-more : (g before after : List (List Bool)) → RunEnds table ends → k < recordCount table → kindAt table k ≡ 9
-      → Closure table k (getD ends k 0) g → RowsPut g (2 * k + 2) (2 * getD ends k 0) before after
+      → Closure table k (getD ends k 0) g → 256 ≤ length before → RowsPut g (2 * k + 2) (2 * getD ends k 0) before after
       → ReachedBelow table ends k before
       → ReachedBelow table ends (k + 1) after
-  below-more g before after runs few nine c r below j column h e =
+  below-more g before after runs few nine c room r below j column h e =
       ⊎-elim
-      (λ q. rows-stay table j (getD ends j 0) before after
+      (λ q. rows-stay table j (getD ends j 0) before after (r .size)
       (λ p b. r .kept p
       (λ a d. let w = ends-before table j (getD ends j 0) k (runs .each j (omega arith) (ap isTerm e) .values) q term in omega arith))
       (below j column q e))
@@ -126,4 +123,6 @@ module _ (table ends : List ℕ) (k : ℕ) where
       term = nine-term table k nine
 
       own : ReachedFrom table k (getD ends k 0) after
-      own = rows-reach table k (getD ends k 0) g before after (runs .each k few term .values) c r
+      own =
+          let v = runs .each k few term .values in
+          rows-reach table k (getD ends k 0) g before after v c (omega (arith, room, v .last)) r

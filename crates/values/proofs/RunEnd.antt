@@ -103,3 +103,41 @@ module _ (table : List ℕ) where
           follows = next;
           all = all-values;
         }
+
+-- ---- downward through the records
+
+-- `next` is the first term record from record k on, or n.
+pub record FirstFrom (table : List ℕ) (k n next : ℕ) : Type 0 where
+  pub least : k ≤ next
+  pub most : next ≤ n
+  pub before : (i : ℕ) → k ≤ i → i < next → isTerm (recordAt table i) ≡ false
+  pub ends : next < n → isTerm (recordAt table next) ≡ true
+
+module _ (table : List ℕ) (n : ℕ) where
+  pub first-none : FirstFrom table n n n
+  first-none =
+      record { least = omega arith; most = omega arith; before = λ i l h. absurd (omega arith); ends = λ h. absurd (omega arith) }
+
+  -- The first from record k + 1 on is the next after record k.
+  pub first-next : (k next : ℕ) → FirstFrom table (k + 1) n next → NextTerm table k n next
+  first-next k next f =
+      record {
+        after = omega (arith, f .least);
+        most = f .most;
+        between = λ i l h. f .before i (omega (arith, l)) h;
+        ends = f .ends;
+      }
+
+  -- One record down.
+  pub first-down : (k next : ℕ) → k < n → FirstFrom table (k + 1) n next
+      → FirstFrom table k n (cond (isTerm (recordAt table k)) k next)
+  first-down k next l f =
+      ⊎-elim
+      (λ t. rw t (record { least = omega arith; most = omega (arith, l); before = λ i a b. absurd (omega (arith, a, b)); ends = λ h. t }))
+      (λ t. rw t (record {
+        least = omega (arith, f .least);
+        most = f .most;
+        before = λ i a b. ⊎-elim (λ q. f .before i (omega (arith, q)) b) (λ q. rw (← q) t) (lt-suc-cases k i (omega (arith, a)));
+        ends = f .ends;
+      }))
+      (on-or-off (isTerm (recordAt table k)))

@@ -60,6 +60,7 @@ pub record RowsPut (g : List (List Bool)) (start last : ℕ) (before after : Lis
 
 -- Row p says which ends of the edges from record k + 1 to before e are reached from end p by these edges.
 pub record ReachedFrom (table : List ℕ) (k e : ℕ) (reach : List (List Bool)) : Type 0 where
+  pub rows : 2 * e ≤ length reach
   pub each : (p q : ℕ) → 2 * k + 2 ≤ p → p < 2 * e → 2 * k + 2 ≤ q → q < 2 * e
       → cellAt reach p (q - (2 * k + 2)) ≡ reaches (valuesBetween table k e) (numberAt table p) (numberAt table q)
 

@@ -25,7 +25,7 @@ ghost use Rattle.classes.specs.Places.{BaseTermAt};
 pub fn base_code(
     table: &[u8],
     numbers: &[i32; 256],
-    reach: &[[bool; 32]; 256],
+    reach: &[[bool; 32]],
     k: u8,
     e: u8,
     b: BaseTerm,
@@ -141,7 +141,7 @@ fn pos_pos_code(table: &[u8], numbers: &[i32; 256], k: u8, e: u8, x: i32, y: i32
 fn explicit_code(
     table: &[u8],
     numbers: &[i32; 256],
-    reach: &[[bool; 32]; 256],
+    reach: &[[bool; 32]],
     k: u8,
     e: u8,
     x: i32,

@@ -9,12 +9,12 @@ ghost use Rattle.lanes.specs.Wrote.{Wrote};
 ghost use Rattle.lanes.specs.Lanes.{orderCode, placeCode, orderLane, rankedLane, placeLane};
 
 // By rank, where equal ranks are equal values.
-pub fn order_lanes(ranks: &[i32], at: usize, x: i32, codes: &mut [u8], a: usize)
-    requires { ⌜ (at + 64 ≤ length (now ranks)) × (a + 64 ≤ length (now codes)) ⌝ }
-    ensures { λ _. ⌜ Wrote 0 (orderLane x (now (ranks .entry)) at) a 64 (now (codes .entry)) (now (codes .exit)) ⌝ }
+pub fn order_lanes(ranks: &[i32], at: usize, x: i32, codes: &mut [u8], a: usize, count: usize)
+    requires { ⌜ (at + count ≤ length (now ranks)) × (a + count ≤ length (now codes)) ⌝ }
+    ensures { λ _. ⌜ Wrote 0 (orderLane x (now (ranks .entry)) at) a count (now (codes .entry)) (now (codes .exit)) ⌝ }
 {
     let mut j = 0;
-    while j < 64 {
+    while j < count {
         codes[a + j] = order(x, ranks[at + j]);
         j += 1;
     }
@@ -30,12 +30,13 @@ pub fn ranked_lanes(
     v: i32,
     codes: &mut [u8],
     a: usize,
+    count: usize,
 )
-    requires { ⌜ (at + 64 ≤ length (now ranks)) × (from + 64 ≤ length (now values)) × (a + 64 ≤ length (now codes)) ⌝ }
-    ensures { λ _. ⌜ Wrote 0 (rankedLane x (now (ranks .entry)) at v (now (values .entry)) from) a 64 (now (codes .entry)) (now (codes .exit)) ⌝ }
+    requires { ⌜ (at + count ≤ length (now ranks)) × (from + count ≤ length (now values)) × (a + count ≤ length (now codes)) ⌝ }
+    ensures { λ _. ⌜ Wrote 0 (rankedLane x (now (ranks .entry)) at v (now (values .entry)) from) a count (now (codes .entry)) (now (codes .exit)) ⌝ }
 {
     let mut j = 0;
-    while j < 64 {
+    while j < count {
         codes[a + j] = ranked(x, ranks[at + j], v == values[from + j]);
         j += 1;
     }
@@ -62,7 +63,7 @@ pub fn place_lanes(
     }
 }
 
-// No branch, so that 64 of them go at once.
+// No branch, so that many of them go at once.
 fn order(x: i32, y: i32) -> u8
     ensures { λ r. ⌜ r ≡ orderCode x y ⌝ }
 {

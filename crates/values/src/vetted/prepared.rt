@@ -8,8 +8,12 @@ use records::record::v_at;
 use terms::vetted::closure::closure;
 ghost use mathlib.Core.Path.{_≡_};
 ghost use Prim.Native.Nat.{ℕ, _+_, _*_, _/_, _<_, _≤_};
+ghost use mathlib.Core.Bool.{cond};
+ghost use lib.Dec.{eqb};
 ghost use lib.ListN.{length};
-ghost use Rattle.values.specs.Prepared.{numberAt, Numbers, Vetted, NextTerm, RunEnds, RowsPut, Reached};
+ghost use Rattle.model.specs.Search.{anyBelow};
+ghost use Rattle.model.specs.Record.{recordCount, kindAt, recordAt, isTerm};
+ghost use Rattle.values.specs.Prepared.{numberAt, Numbers, Vetted, RunEnds, RowsPut, Reached};
 
 // The numbers of all records: u of record k at 2 k, v at 2 k + 1. Past the table's end they are 0.
 pub fn numbers(table: &[u8]) -> [i32; 256]
@@ -47,57 +51,63 @@ fn number_at(table: &[u8], i: usize) -> i32
     v_at(table, k)
 }
 
-// Of every term the record after its last value.
+// Of every record the next term, and so of every term the record after its last value.
 pub fn run_ends(table: &[u8]) -> [u8; 128]
     requires { ⌜ Vetted (now table) ⌝ }
     ensures { λ r. ⌜ RunEnds (now (table .entry)) r ⌝ }
 {
     let n = (table.len() / RECORD_BYTES) as u8;
     let mut ends = [0u8; 128];
-    let mut k = 0u8;
-    while k < n {
-        let e = run_end(table, k, n);
+    let mut next = n;
+    let mut k = n;
+    while 0 < k {
+        k -= 1;
         let at = k as usize;
-        ends[at] = e;
-        k += 1;
+        ends[at] = next;
+        next = first_term(table, k, next);
     }
     ends
 }
 
-// The first term record after record k, or n.
-fn run_end(table: &[u8], k: u8, n: u8) -> u8
-    requires { ⌜ k < n ⌝ }
-    ensures { λ r. ⌜ NextTerm (now (table .entry)) k n r ⌝ }
+// The first term record from record k on, where `next` is the first one after it.
+fn first_term(table: &[u8], k: u8, next: u8) -> u8
+    ensures { λ r. ⌜ r ≡ cond (isTerm (recordAt (now (table .entry)) k)) k next ⌝ }
 {
-    let mut i = k + 1;
-    while i < n {
-        if is_term_at(table, i) {
-            return i;
-        }
-        i += 1;
+    if is_term_at(table, k) { k } else { next }
+}
+
+// Whether a term has edges.
+pub fn has_explicit(table: &[u8]) -> bool
+    requires { ⌜ Vetted (now table) ⌝ }
+    ensures { λ r. ⌜ r ≡ anyBelow (recordCount (now (table .entry))) (λ k. eqb (kindAt (now (table .entry)) k) 9) ⌝ }
+{
+    let n = (table.len() / RECORD_BYTES) as u8;
+    let mut some = false;
+    let mut k = 0u8;
+    while k < n {
+        some = some | (kind_at(table, k) == 9);
+        k += 1;
     }
-    n
+    some
 }
 
 // What each end of an edge reaches among the ends of its own term's edges: row 2 i for u of value record i, row 2 i + 1 for
 // v, one cell for each end from the term's first one on.
-pub fn closures(table: &[u8], ends: &[u8; 128]) -> [[bool; 32]; 256]
-    requires { ⌜ Vetted (now table) × RunEnds (now table) (now ends) ⌝ }
-    ensures { λ r. ⌜ Reached (now (table .entry)) (now (ends .entry)) r ⌝ }
+pub fn fill_closures(table: &[u8], ends: &[u8; 128], reach: &mut [[bool; 32]; 256])
+    requires { ⌜ Vetted (now table) × RunEnds (now table) (now ends) × (length (now reach) ≡ 256) ⌝ }
+    ensures { λ _. ⌜ Reached (now (table .entry)) (now (ends .entry)) (now (reach .exit)) × (length (now (reach .exit)) ≡ 256) ⌝ }
 {
     let n = (table.len() / RECORD_BYTES) as u8;
-    let mut reach = [[false; 32]; 256];
     let mut k = 0u8;
     while k < n {
         if kind_at(table, k) == 9 {
             let at = k as usize;
             let e = ends[at];
             let g = closure(table, k, e);
-            put_rows(&mut reach, &g, k, e);
+            put_rows(reach, &g, k, e);
         }
         k += 1;
     }
-    reach
 }
 
 // Copies the closure's rows for the edges from record k + 1 to before e.

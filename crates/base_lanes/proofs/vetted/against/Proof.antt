@@ -26,7 +26,7 @@ mul-last : tie.Need-mul-last Inv-loop μ-loop
 mul-last c = search needs
 
 loop-holds : tie.Need-loop-holds Inv-loop μ-loop
-loop-holds c = (search needs, omega (arith, c .pre .low, c .pre .high), refl, record { each = λ q l h. absurd (omega arith) })
+loop-holds c = (search needs, omega (arith, c .pre .0 .low, c .pre .0 .high), refl, record { each = λ q l h. absurd (omega arith) })
 
 place-code-requires : tie.Need-place-code-requires Inv-loop μ-loop
 place-code-requires c κs = search needs

@@ -1,5 +1,5 @@
 -- `base_lanes::vetted::explicit_codes` meets its contract. Assumes nothing.
-use mathlib.Core.Path.{_≡_, _∙_}
+use mathlib.Core.Path.{_≡_, refl, _∙_}
 use native.Mathlib.Omega.{arith}
 use lib.IntN.{pos}
 use mir.Syntax.{w32}
@@ -37,7 +37,7 @@ against-requires : tie.Need-against-requires
 against-requires c κs =
     let s = c .before .before in
     let h = s .pre .0 in
-    rw (place-is s) (ends-of (h .values) (h .own .ends))
+    rw (place-is s) (ends-of (h .values) (h .own .ends), h .reached refl .rows)
 
 mul-place-lanes : tie.Need-mul-place-lanes
 mul-place-lanes c = search needs

@@ -10,10 +10,10 @@ use Rattle.beneath.proofs.vetted.beneath.Statement.{statement}
 use Rattle.beneath.proofs.vetted.beneath.Tie as tie
 
 abbrev Inv-loop : tie.InvT-loop
-Inv-loop table numbers exits term first k₀ marks k = (k ≤ term + 1) × MarkedFrom table term k exits marks
+Inv-loop table numbers exits term marks₀ k₀ marks k = (k ≤ term + 1) × MarkedFrom table term k exits marks
 
 abbrev μ-loop : tie.MeasureT-loop
-μ-loop table numbers exits term first k₀ marks k = k
+μ-loop table numbers exits term marks₀ k₀ marks k = k
 
 telling-requires : tie.Need-telling-requires Inv-loop μ-loop
 telling-requires c κs = search needs
@@ -29,25 +29,25 @@ loop-holds c =
 sub-k : tie.Need-sub-k Inv-loop μ-loop
 sub-k c = search needs
 
-with-parts-requires : tie.Need-with-parts-requires Inv-loop μ-loop
-with-parts-requires c κs =
-    let l = c .before in
+mark-parts-requires : tie.Need-mark-parts-requires Inv-loop μ-loop
+mark-parts-requires c κs =
+    let l = c .before .before in
     let s = l .before .before .before in
-    (omega (arith, s .pre .0), s .pre .1, record { each = λ h d g e. s .pre .2 .each h d (omega arith) e })
+    (omega (arith, s .pre .0), s .pre .1, record { each = λ h d g e. s .pre .2 .each h d (omega arith) e }, l .loop .inv .1 .room)
 
 loop-less : tie.Need-loop-less Inv-loop μ-loop
 loop-less c = search needs
 
 loop-again : tie.Need-loop-again Inv-loop μ-loop
 loop-again c =
-    let l = c .before .before in
+    let l = c .before .before .before in
     let s = l .before .before .before in
     let a = s .args in
     let back : l .loop .k - 1 + 1 ≡ l .loop .k = omega arith in
     let next =
     marked-more (now (a .table)) (a .term) (l .loop .k - 1) (omega arith) (s .pre .0) (s .pre .2) (now (a .exits)) (l .loop .marks)
     (rw back (l .loop .inv .1)) in
-    (omega arith, rw (c .with-parts .ensures) next)
+    (omega arith, rw (c .mark-parts .ensures) next)
 
 returns : tie.Need-returns Inv-loop μ-loop
 returns c = let z : c .before .loop .k ≡ 0 = omega arith in rw z at (c .before .loop .inv .1)
@@ -62,7 +62,7 @@ beneath-spec =
     add-k
     loop-holds
     sub-k
-    with-parts-requires
+    mark-parts-requires
     loop-less
     loop-again
     returns)

@@ -12,11 +12,11 @@ cast-i c = search needs
 cast-j : tie.Need-cast-j
 cast-j c = search needs
 
-array-write-next : tie.Need-array-write-next
-array-write-next c = let k = c .before in (rw (k .c .given .1) at (k .before .before .pre)) .0
+element-write-marks : tie.Need-element-write-marks
+element-write-marks c = let k = c .before in (rw (k .c .given .1) at (k .before .before .pre .0)) .0
 
-array-write-next-2 : tie.Need-array-write-next-2
-array-write-next-2 c = let k = c .before in (rw (k .c .given .1) at (k .before .before .pre)) .1
+element-write-marks-2 : tie.Need-element-write-marks-2
+element-write-marks-2 c = let k = c .before in (rw (k .c .given .1) at (k .before .before .pre .0)) .1
 
 enum-known-c-2 : tie.Need-enum-known-c-2
 enum-known-c-2 c = search needs
@@ -24,8 +24,8 @@ enum-known-c-2 c = search needs
 cast-i-2 : tie.Need-cast-i-2
 cast-i-2 c = search needs
 
-array-write-next-3 : tie.Need-array-write-next-3
-array-write-next-3 c = let k = c .before in rw (k .c2 .given .1) at (k .before .before .pre)
+element-write-marks-3 : tie.Need-element-write-marks-3
+element-write-marks-3 c = let k = c .before in rw (k .c2 .given .1) at (k .before .before .pre .0)
 
 returns : tie.Need-returns
 returns c = rw (c .before .c .given .1)
@@ -40,10 +40,10 @@ of-compound-spec =
     enum-known-c
     cast-i
     cast-j
-    array-write-next
-    array-write-next-2
+    element-write-marks
+    element-write-marks-2
     enum-known-c-2
     cast-i-2
-    array-write-next-3
+    element-write-marks-3
     returns
     returns-2)

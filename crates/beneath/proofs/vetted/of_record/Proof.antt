@@ -13,7 +13,7 @@ enum-known-r : tie.Need-enum-known-r
 enum-known-r c = search needs
 
 of-compound-requires : tie.Need-of-compound-requires
-of-compound-requires c κs = let k = c .before in rw (k .r .given .1) at (k .before .before .pre)
+of-compound-requires c κs = let k = c .before .before in (rw (k .r .given .1) at (k .before .before .pre .0), k .before .before .pre .1)
 
 enum-told-3 : tie.Need-enum-told-3
 enum-told-3 c = search needs
@@ -25,7 +25,7 @@ returns-2 : tie.Need-returns-2
 returns-2 c = search needs
 
 returns-3 : tie.Need-returns-3
-returns-3 c = rw (c .before .before .r .given .1) (c .of-compound .ensures)
+returns-3 c = rw (c .before .before .before .r .given .1) (c .of-compound .ensures)
 
 returns-4 : tie.Need-returns-4
 returns-4 c = search needs

@@ -9,8 +9,9 @@ use mir.Facts.{toZ-ofZ}
 use denote.Ref.{now}
 use borrow.Author.Needs.{needs, sfits-of}
 use Rattle.model.specs.Record.{isTerm}
-use Rattle.blocks.proofs.Coded.{coded-other, record-below, rank-place, ranks-end, value-room}
-use Rattle.blocks.proofs.OfBase.{column-below, base-asked, base-room, base-coded}
+use Rattle.beneath.specs.Codes.{column-below}
+use Rattle.blocks.proofs.Coded.{ok, below, coded-other, record-below, rank-place, ranks-end, value-room}
+use Rattle.blocks.proofs.OfBase.{base-asked, base-room, base-coded}
 use Rattle.blocks.proofs.OfCompound.{parts-below, compound-coded}
 use Rattle.blocks.proofs.vetted.record_codes.Statement.{statement}
 use Rattle.blocks.proofs.vetted.record_codes.Tie as tie
@@ -77,7 +78,7 @@ shared-slice-copy-out-v c =
     let d = k .before .before in
     let s = d .before .before .before in
     let is = sym (d .decoded .ensures) ∙ k .column .given .1 in
-    omega (arith, value-room (s .pre .0) (s .pre .1), column-below (s .pre .0) (s .pre .1) is)
+    omega (arith, value-room (s .pre .0) (s .pre .1), column-below (ok (s .pre .0)) (below (s .pre .0) (s .pre .1)) is)
 
 element-copy-out-e : tie.Need-element-copy-out-e
 element-copy-out-e c =
@@ -122,8 +123,8 @@ base-codes-requires c κs =
 enum-known-c : tie.Need-enum-known-c
 enum-known-c c = search needs
 
-compound-codes-requires : tie.Need-compound-codes-requires
-compound-codes-requires c κs =
+compound-lanes-requires : tie.Need-compound-lanes-requires
+compound-lanes-requires c κs =
     let k = c .before .before in
     let d = k .before .before in
     let s = d .before .before .before in
@@ -163,7 +164,7 @@ returns-3 c =
     let d = k .before .before in
     let s = d .before .before .before in
     compound-coded (s .pre .0) (s .pre .1) (sym (d .decoded .ensures) ∙ k .c .given .1) (s .pre .3)
-    (c .before .before .compound-codes .ensures)
+    (c .before .before .compound-lanes .ensures)
 
 returns-4 : tie.Need-returns-4
 returns-4 c =
@@ -200,7 +201,7 @@ record-codes-spec =
     add-base-codes-2
     base-codes-requires
     enum-known-c
-    compound-codes-requires
+    compound-lanes-requires
     enum-told-2
     returns
     same-length

@@ -16,14 +16,17 @@ numbers-requires c κs = search needs
 run-ends-requires : tie.Need-run-ends-requires Inv-loop μ-loop
 run-ends-requires c κs = search needs
 
-closures-requires : tie.Need-closures-requires Inv-loop μ-loop
-closures-requires c κs = search needs
+fill-closures-requires : tie.Need-fill-closures-requires Inv-loop μ-loop
+fill-closures-requires c κs = search needs
 
 no-counts-requires : tie.Need-no-counts-requires Inv-loop μ-loop
 no-counts-requires c κs = search needs
 
 loop-holds : tie.Need-loop-holds Inv-loop μ-loop
 loop-holds c = search needs
+
+slice-aggregate-with-row : tie.Need-slice-aggregate-with-row Inv-loop μ-loop
+slice-aggregate-with-row c = search needs
 
 with-row-requires : tie.Need-with-row-requires Inv-loop μ-loop
 with-row-requires c κs = search needs
@@ -48,9 +51,10 @@ compared-spec =
     μ-loop
     numbers-requires
     run-ends-requires
-    closures-requires
+    fill-closures-requires
     no-counts-requires
     loop-holds
+    slice-aggregate-with-row
     with-row-requires
     add-i
     loop-less

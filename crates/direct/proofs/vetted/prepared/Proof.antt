@@ -1,62 +1,19 @@
 -- `direct::vetted::prepared` meets its contract. Assumes nothing.
+use mathlib.Core.Path.{sym, _∙_}
+use Rattle.values.specs.Edges.{no-edges}
+use Rattle.selection.specs.Taken.{vetted}
 use borrow.Author.Needs.{needs}
-use Rattle.beneath.specs.Beneath.{parts-low}
-use Rattle.selection.specs.Taken.{vetted, term-below}
-use Rattle.selection.specs.Ranks.{rankable, same-room}
-use Rattle.direct.proofs.Pairs.{comparable}
 use Rattle.direct.proofs.vetted.prepared.Statement.{statement}
 use Rattle.direct.proofs.vetted.prepared.Tie as tie
 
-numbers-requires : tie.Need-numbers-requires
-numbers-requires c κs = search needs
-
 run-ends-requires : tie.Need-run-ends-requires
-run-ends-requires c κs = vetted (c .before .before .before .pre .0 .taken)
+run-ends-requires c κs = search needs
 
-closures-requires : tie.Need-closures-requires
-closures-requires c κs =
-    let e = c .before in
-    (vetted (e .before .before .before .before .pre .0 .taken), e .run-ends .ensures)
+has-explicit-requires : tie.Need-has-explicit-requires
+has-explicit-requires c κs = search needs
 
-exits-requires : tie.Need-exits-requires
-exits-requires c κs =
-    let a = c .before .before .before .before in
-    let t = a .before .before .before .pre .0 .taken in
-    record { columns = _; taken = t; prepared = a .numbers .ensures }
-
-beneath-requires : tie.Need-beneath-requires
-beneath-requires c κs =
-    let a = c .before .before .before .before .before .before .before in
-    let t = a .before .before .before .pre .0 .taken in
-    (term-below t, a .numbers .ensures, parts-low _ _ _ (t .isAccepted) (t .below))
-
-ops-requires : tie.Need-ops-requires
-ops-requires c κs =
-    let a = c .before .before .before .before .before .before .before .before .before in
-    (term-below (a .before .before .before .pre .0 .taken), a .numbers .ensures)
-
-fill-ranks-requires : tie.Need-fill-ranks-requires
-fill-ranks-requires c κs =
-    let m = c .before .before .before .before .before .before in
-    let e = m .before .before .before .before .before .before .before in
-    let a = e .before in
-    let s = a .before .before .before in
-    rankable (s .pre .0) (s .pre .1) (a .numbers .ensures) (e .run-ends .ensures) (m .beneath .ensures) (s .pre .2)
-
-by-pairs-requires : tie.Need-by-pairs-requires
-by-pairs-requires c κs =
-    let q = c .before .before .before .before .before .before .before in
-    let r = q .before in
-    let o = r .before .before .before .before .before in
-    let m = o .before .before in
-    let x = m .before .before .before in
-    let g = x .before .before in
-    let e = g .before .before in
-    let s = e .before .before .before .before in (
-      comparable (s .pre .0) (s .pre .1) (o .ops .ensures) (e .run-ends .ensures) (g .closures .ensures) (m .beneath .ensures)
-          (x .exits .ensures) (r .fill-ranks .ensures) (same-room (q .ranks .given) (s .pre .2)),
-      s .pre .3,
-    )
+with-edges-requires : tie.Need-with-edges-requires
+with-edges-requires c κs = search needs
 
 same-length : tie.Need-same-length
 same-length c = search needs
@@ -67,18 +24,36 @@ same-length-2 c = search needs
 returns : tie.Need-returns
 returns c = search needs
 
+slice-aggregate-compared : tie.Need-slice-aggregate-compared
+slice-aggregate-compared c = search needs
+
+compared-requires : tie.Need-compared-requires
+compared-requires c κs =
+    let e = c .before .before .before .before .before .before in
+    let s = e .before .before .before in
+    (s .pre .0, s .pre .1, s .pre .2, s .pre .3, e .run-ends .ensures, no-edges _ _ _ (sym (c .before .before .before .before .before .has-explicit .ensures) ∙ c .before .before .before .before .if1 .left))
+
+same-length-3 : tie.Need-same-length-3
+same-length-3 c = search needs
+
+same-length-4 : tie.Need-same-length-4
+same-length-4 c = search needs
+
+returns-2 : tie.Need-returns-2
+returns-2 c = search needs
+
 pub prepared-spec : {M : Type 1} → statement M
 prepared-spec =
     tie.close
     (tie.spec
-    numbers-requires
     run-ends-requires
-    closures-requires
-    exits-requires
-    beneath-requires
-    ops-requires
-    fill-ranks-requires
-    by-pairs-requires
+    has-explicit-requires
+    with-edges-requires
     same-length
     same-length-2
-    returns)
+    returns
+    slice-aggregate-compared
+    compared-requires
+    same-length-3
+    same-length-4
+    returns-2)

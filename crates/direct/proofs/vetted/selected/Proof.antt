@@ -18,9 +18,9 @@ mul-stride c = search needs
 add-stride : tie.Need-add-stride
 add-stride c = search needs
 
-in-one-block-requires : tie.Need-in-one-block-requires
+of-few-rows-requires : tie.Need-of-few-rows-requires
 unfolding rowCount
-in-one-block-requires c κs =
+of-few-rows-requires c κs =
     let s = c .before .before .before .before in
     (asked-rows (s .pre), stride-for (s .pre .ofTerm), c .before .if1 .taken, s .pre .long)
 
@@ -29,11 +29,11 @@ same-length c = search needs
 
 returns : tie.Need-returns
 unfolding rowCount
-returns c = c .before .before .in-one-block .ensures
+returns c = c .before .before .of-few-rows .ensures
 
-in-four-blocks-requires : tie.Need-in-four-blocks-requires
+in-one-block-requires : tie.Need-in-one-block-requires
 unfolding rowCount
-in-four-blocks-requires c κs =
+in-one-block-requires c κs =
     let s = c .before .before .before .before .before in
     (asked-rows (s .pre), stride-for (s .pre .ofTerm), c .before .if2 .taken, s .pre .long)
 
@@ -42,20 +42,33 @@ same-length-2 c = search needs
 
 returns-2 : tie.Need-returns-2
 unfolding rowCount
-returns-2 c = c .before .before .in-four-blocks .ensures
+returns-2 c = c .before .before .in-one-block .ensures
 
-in-blocks-requires : tie.Need-in-blocks-requires
+in-four-blocks-requires : tie.Need-in-four-blocks-requires
 unfolding rowCount
-in-blocks-requires c κs =
-    let s = c .before .before .before .before .before in
-    (asked-rows (s .pre), stride-for (s .pre .ofTerm), s .pre .long)
+in-four-blocks-requires c κs =
+    let s = c .before .before .before .before .before .before in
+    (asked-rows (s .pre), stride-for (s .pre .ofTerm), c .before .if3 .taken, s .pre .long)
 
 same-length-3 : tie.Need-same-length-3
 same-length-3 c = search needs
 
 returns-3 : tie.Need-returns-3
 unfolding rowCount
-returns-3 c = c .before .before .in-blocks .ensures
+returns-3 c = c .before .before .in-four-blocks .ensures
+
+in-blocks-requires : tie.Need-in-blocks-requires
+unfolding rowCount
+in-blocks-requires c κs =
+    let s = c .before .before .before .before .before .before in
+    (asked-rows (s .pre), stride-for (s .pre .ofTerm), s .pre .long)
+
+same-length-4 : tie.Need-same-length-4
+same-length-4 c = search needs
+
+returns-4 : tie.Need-returns-4
+unfolding rowCount
+returns-4 c = c .before .before .in-blocks .ensures
 
 pub selected-spec : {M : Type 1} → statement M
 selected-spec =
@@ -64,12 +77,15 @@ selected-spec =
     div-n
     mul-stride
     add-stride
-    in-one-block-requires
+    of-few-rows-requires
     same-length
     returns
-    in-four-blocks-requires
+    in-one-block-requires
     same-length-2
     returns-2
-    in-blocks-requires
+    in-four-blocks-requires
     same-length-3
-    returns-3)
+    returns-3
+    in-blocks-requires
+    same-length-4
+    returns-4)

@@ -16,18 +16,18 @@ slice-read-if1 c = search needs
 
 returns : tie.Need-returns
 returns c =
-    let p = c .before .before .before .before .before .pre in
+    let p = c .before .before .before .before .before .before .pre in
     (meet-gone _ _ _ _ _ (p .4) (p .1) (c .if1 .taken), p .5, λ on. absurd (false≢true on), p .3 .ofCodes)
 
-element-copy-out-if2 : tie.Need-element-copy-out-if2
-element-copy-out-if2 c = search needs
+shared-slice-read-if2 : tie.Need-shared-slice-read-if2
+shared-slice-read-if2 c = search needs
 
-element-copy-out-if2-2 : tie.Need-element-copy-out-if2-2
-element-copy-out-if2-2 c = search needs
+shared-slice-read-if2-2 : tie.Need-shared-slice-read-if2-2
+shared-slice-read-if2-2 c = search needs
 
 returns-2 : tie.Need-returns-2
 returns-2 c =
-    let s = c .before .before .before .before .before .before .before .before in
+    let s = c .before .before .before .before .before .before .before .before .before in
     let a = s .args in
     let p = s .pre in
     let d = keys-apart (p .6) (termAt (now (a .table)) (a .term)) (a .i) (a .j) (p .1) (p .2) (c .if2 .taken) in
@@ -60,7 +60,7 @@ same-length-2 c = search needs
 returns-3 : tie.Need-returns-3
 returns-3 c =
     let o = c .before .before .before .before .before in
-    let p = o .before .before .before .before .before .pre in
+    let p = o .before .before .before .before .before .before .pre in
     let r = c .group-code .ensures in
     let e = group-first (p .0 .taken) _ _ _ _ (r .0) in
     let f = group-second (p .0 .taken) _ _ _ _ (r .0) in (
@@ -76,8 +76,8 @@ meet-spec =
     (tie.spec
     slice-read-if1
     returns
-    element-copy-out-if2
-    element-copy-out-if2-2
+    shared-slice-read-if2
+    shared-slice-read-if2-2
     returns-2
     group-code-requires
     cast-by

@@ -8,7 +8,7 @@ use mir.Syntax.{w32}
 use mir.Facts.{toZ-ofZ}
 use denote.Ref.{now}
 use Rattle.model.specs.Better.{cell}
-use Rattle.base_terms.proofs.Coded.{same-bits, other-bits}
+use Rattle.classes.specs.Coded.{same-bits, other-bits}
 use Rattle.pair_records.proofs.Coded.{record-below, rank-place, based, column-in, two-ranked, same-is, ranked-is, explicit-code-is, not-explicit, is-explicit, left-low, parts-low, joined-is}
 use borrow.Author.Needs.{needs, sfits-of}
 use Rattle.pair_records.proofs.vetted.record_code.Statement.{statement}

@@ -27,17 +27,17 @@ abbrev μ-loop : tie.MeasureT-loop
 
 loop-holds : tie.Need-loop-holds Inv-loop μ-loop
 loop-holds c =
-    let p = c .before .before .before .pre in
+    let p = c .before .before .before .before .pre in
     (search needs, refl, refl, p .1 .ofCodes, p .2, p .3)
 
 round-or-skip-requires : tie.Need-round-or-skip-requires Inv-loop μ-loop
 round-or-skip-requires c κs =
     let s = c .before .before .before .before in
-    let p = s .before .before .before .before .pre in
+    let p = s .before .before .before .before .before .pre in
     let v = s .loop .inv in (
       p .0,
       omega arith,
-      record { ofGone = v .1 ∙ p .1 .ofGone; ofBy = v .2 ∙ p .1 .ofBy; ofCodes = v .3 },
+      record { ofGone = rw (v .1) (p .1 .ofGone); ofBy = rw (v .2) (p .1 .ofBy); ofKeys = p .1 .ofKeys; ofCodes = v .3 },
       v .4,
       v .5,
       p .4,
@@ -64,7 +64,7 @@ returns : tie.Need-returns Inv-loop μ-loop
 returns c =
     let v = c .before .loop .inv in
     let q = le-antisymm (v .0) (c .loop-test .left) in
-    let s = taken-sound _ _ _ (c .before .before .before .before .before .pre .0 .taken) in
+    let s = taken-sound _ _ _ (c .before .before .before .before .before .before .pre .0 .taken) in
     (settled-of _ _ _ (beats-strict _ _ _ _ (ordered _ (s .0) (s .1) .strict)) (rw q at (v .4)), v .5, v .3)
 
 pub eliminate-spec : {M : Type 1} → statement M

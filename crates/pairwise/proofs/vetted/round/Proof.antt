@@ -27,18 +27,18 @@ add-j c = search needs
 
 loop-holds : tie.Need-loop-holds Inv-loop μ-loop
 loop-holds c =
-    let p = c .before .before .before .pre in
+    let p = c .before .before .before .before .pre in
     (refl, refl, p .2 .ofCodes, turn-start _ _ _ _ _ (omega arith) (p .3), p .4, omega arith)
 
 meet-requires : tie.Need-meet-requires Inv-loop μ-loop
 meet-requires c κs =
     let s = c .before .before .before .before in
-    let p = s .before .before .before .before .pre in
+    let p = s .before .before .before .before .before .pre in
     let v = s .loop .inv in (
       p .0,
       p .1,
       omega arith,
-      record { ofGone = v .0 ∙ p .2 .ofGone; ofBy = v .1 ∙ p .2 .ofBy; ofCodes = v .2 },
+      record { ofGone = rw (v .0) (p .2 .ofGone); ofBy = rw (v .1) (p .2 .ofBy); ofKeys = p .2 .ofKeys; ofCodes = v .2 },
       v .3,
       v .4,
       p .5,
@@ -65,7 +65,7 @@ same-length-2 c = simp length-set (omega arith)
 returns : tie.Need-returns Inv-loop μ-loop
 returns c =
     let m = c .before .before .before .before .before in
-    let p = m .before .before .before .before .before .before .before .before .before .pre in
+    let p = m .before .before .before .before .before .before .before .before .before .before .pre in
     let r = m .meet .ensures in
     let v = m .before .before .before .before .before .loop .inv in
     let on = c .if1 .taken in (

@@ -4,7 +4,7 @@ use denote.Ref.{now}
 use borrow.Author.Needs.{needs}
 use Rattle.elimination.specs.Rounds.{count-kept}
 use Rattle.entries.specs.Answers.{known-names, rest-named, entries-answers}
-use Rattle.parts.proofs.Blocks.{strict-rows}
+use Rattle.selection.specs.Taken.{strict-rows}
 use Rattle.parts.proofs.vetted.named.Statement.{statement}
 use Rattle.parts.proofs.vetted.named.Tie as tie
 

@@ -48,12 +48,16 @@ add-q c =
 leads-requires : tie.Need-leads-requires
 leads-requires c κs =
     let s = c .before in
-    rw (first-is s, second-is s) (ends-of (s .pre .values) (s .pre .second .ends), ends-of (s .pre .values) (s .pre .first .ends))
+    let v = s .pre .values in
+    rw (first-is s, second-is s)
+    (ends-of v (s .pre .second .ends), ends-of v (s .pre .first .ends), s .pre .reached refl .rows)
 
 leads-requires-2 : tie.Need-leads-requires-2
 leads-requires-2 c κs =
     let s = c .before .before in
-    rw (first-is s, second-is s) (ends-of (s .pre .values) (s .pre .first .ends), ends-of (s .pre .values) (s .pre .second .ends))
+    let v = s .pre .values in
+    rw (first-is s, second-is s)
+    (ends-of v (s .pre .first .ends), ends-of v (s .pre .second .ends), s .pre .reached refl .rows)
 
 apart-code-requires : tie.Need-apart-code-requires
 apart-code-requires c κs = search needs

@@ -94,6 +94,7 @@ fill-stretch-requires c κs =
     let t = c .before .before .loop-test .taken in (
       p .values,
       p .prepared,
+      r .ensures .0,
       stretch-in (a .columns) (a .n) (l .loop .i) (a .column) (p .below) (length (now (a .rows))) (a .stride) (a .k)
           (length (l .loop .ranks)) (p .run) (subst (Room (a .n) (a .stride)) (sym (l .loop .inv .1)) (p .room)) (p .wide) t
           (r .result) (r .ensures .0) (omega (arith, r .ensures .1, t)),

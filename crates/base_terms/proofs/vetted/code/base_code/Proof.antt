@@ -10,7 +10,7 @@ use Rattle.laws.specs.Sound.{soundBase}
 use Rattle.laws.specs.Runs.{valuesBetween}
 use Rattle.records.proofs.Signed.{returned}
 use Rattle.laws.specs.ValueCodes.{testsCode, apartCode, rankCode, valueCode}
-use Rattle.base_terms.proofs.Coded.{same-bits, other-bits, same-code, other-code}
+use Rattle.classes.specs.Coded.{same-bits, other-bits, same-code, other-code}
 use Rattle.base_terms.proofs.vetted.code.base_code.Statement.{statement}
 use Rattle.base_terms.proofs.vetted.code.base_code.Tie as tie
 

@@ -16,15 +16,15 @@ end-place-requires-2 c κs = let h = c .before .before .pre in (h .0, h .1)
 leads-requires : tie.Need-leads-requires
 leads-requires c κs =
     let p = c .before in
-    let v = p .before .before .pre .0 in
-    (ends-of v (c .end-place2 .ensures), ends-of v (p .end-place .ensures))
+    let pre = p .before .before .pre in
+    (ends-of (pre .0) (c .end-place2 .ensures), ends-of (pre .0) (p .end-place .ensures), pre .2 .rows)
 
 leads-requires-2 : tie.Need-leads-requires-2
 leads-requires-2 c κs =
     let q = c .before in
     let p = q .before in
-    let v = p .before .before .pre .0 in
-    (ends-of v (p .end-place .ensures), ends-of v (q .end-place2 .ensures))
+    let pre = p .before .before .pre in
+    (ends-of (pre .0) (p .end-place .ensures), ends-of (pre .0) (q .end-place2 .ensures), pre .2 .rows)
 
 apart-code-requires : tie.Need-apart-code-requires
 apart-code-requires c κs = search needs

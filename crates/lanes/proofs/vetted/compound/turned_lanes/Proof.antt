@@ -13,11 +13,11 @@ use Rattle.lanes.proofs.vetted.compound.turned_lanes.Statement.{stateme
 use Rattle.lanes.proofs.vetted.compound.turned_lanes.Tie as tie
 
 abbrev Inv-loop : tie.InvT-loop
-Inv-loop codes₀ a l j₀ codes j =
-    (j ≤ 64) × (length codes ≡ length codes₀) × Wrote 0 (turnedLane codes₀ l) a j codes₀ codes
+Inv-loop codes₀ a l count j₀ codes j =
+    (j ≤ count) × (length codes ≡ length codes₀) × Wrote 0 (turnedLane codes₀ l) a j codes₀ codes
 
 abbrev μ-loop : tie.MeasureT-loop
-μ-loop codes₀ a l j₀ codes j = 64 - j
+μ-loop codes₀ a l count j₀ codes j = count - j
 
 loop-holds : tie.Need-loop-holds Inv-loop μ-loop
 loop-holds c = (search needs, refl, wrote-none _ _ _ _)

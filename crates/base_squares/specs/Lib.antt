@@ -1,0 +1,2 @@
+-- The square of a base record's codes.
+pub mod Base

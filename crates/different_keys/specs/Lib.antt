@@ -1,0 +1,2 @@
+-- Keys that all differ.
+pub mod Differ

@@ -1,0 +1,2 @@
+-- The buffers of the direct engine.
+pub mod Rooms

@@ -1,0 +1,2 @@
+-- Rows that are alone in their groups.
+pub mod Alone

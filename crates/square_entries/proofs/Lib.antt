@@ -1,0 +1,3 @@
+-- The lists that the loops leave, and the answers from them.
+pub mod Loops
+pub mod Selects

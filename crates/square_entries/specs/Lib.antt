@@ -1,0 +1,3 @@
+-- Which row beats which by the squares, and the answers.
+pub mod Worse
+pub mod Answers

@@ -1,0 +1,3 @@
+-- The square of groups.
+pub mod Apart
+pub mod Groups

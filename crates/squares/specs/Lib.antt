@@ -1,0 +1,2 @@
+-- The square of a term's codes.
+pub mod Square
