@@ -261,7 +261,7 @@ fn perfect_rows() -> Result<(), Refusal> {
 #[test]
 fn the_engine_for_so_many_rows() {
     assert_eq!(Engine::default(), Engine::Auto);
-    assert_eq!(Engine::for_rows(0), Engine::Direct);
+    assert_eq!(Engine::for_rows(0), Engine::ByParts);
     assert_eq!(Engine::for_rows(BY_PARTS_UP_TO), Engine::ByParts);
     assert_eq!(Engine::for_rows(BY_PARTS_UP_TO + 1), Engine::Direct);
     assert_eq!(Engine::for_rows(BY_PARTS_FROM - 1), Engine::Direct);
