@@ -1,4 +1,4 @@
--- Theorems about the definitions of `model`. Those that a reader should read stand in src/lib.rt and src/demand.rt.
+-- Theorems about the definitions of `model`. Those that a reader should read stand in src/ of `theorems`.
 
 -- Tests and searches.
 pub mod Bools

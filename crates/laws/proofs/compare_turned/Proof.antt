@@ -1,7 +1,0 @@
--- `laws::compare_turned`: proved in specs/Compared. Assumes nothing.
-use Rattle.laws.specs.Compared.{outcome-turned}
-use Rattle.laws.proofs.compare_turned.Statement.{statement}
-use Rattle.laws.proofs.compare_turned.Tie as tie
-
-pub compare-turned-spec : {M : Type 1} → statement M
-compare-turned-spec = tie.close (tie.spec (λ c. outcome-turned))

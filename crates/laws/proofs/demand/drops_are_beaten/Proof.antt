@@ -1,7 +1,0 @@
--- `laws::demand::drops_are_beaten`: proved in specs/Answered. Assumes nothing.
-use Rattle.laws.specs.Answered.{drops-are-beaten}
-use Rattle.laws.proofs.demand.drops_are_beaten.Statement.{statement}
-use Rattle.laws.proofs.demand.drops_are_beaten.Tie as tie
-
-pub drops-are-beaten-spec : {M : Type 1} → statement M
-drops-are-beaten-spec = tie.close (tie.spec (λ c. drops-are-beaten))

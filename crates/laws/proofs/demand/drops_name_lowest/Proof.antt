@@ -1,7 +1,0 @@
--- `laws::demand::drops_name_lowest`: proved in specs/Answered. Assumes nothing.
-use Rattle.laws.specs.Answered.{drops-name-lowest}
-use Rattle.laws.proofs.demand.drops_name_lowest.Statement.{statement}
-use Rattle.laws.proofs.demand.drops_name_lowest.Tie as tie
-
-pub drops-name-lowest-spec : {M : Type 1} → statement M
-drops-name-lowest-spec = tie.close (tie.spec (λ c. drops-name-lowest))

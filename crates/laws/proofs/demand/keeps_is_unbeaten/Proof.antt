@@ -1,7 +1,0 @@
--- `laws::demand::keeps_is_unbeaten`: proved in specs/Answered. Assumes nothing.
-use Rattle.laws.specs.Answered.{keeps-unbeaten}
-use Rattle.laws.proofs.demand.keeps_is_unbeaten.Statement.{statement}
-use Rattle.laws.proofs.demand.keeps_is_unbeaten.Tie as tie
-
-pub keeps-is-unbeaten-spec : {M : Type 1} → statement M
-keeps-is-unbeaten-spec = tie.close (tie.spec (λ c. keeps-unbeaten))

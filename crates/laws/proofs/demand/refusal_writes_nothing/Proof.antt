@@ -1,7 +1,0 @@
--- `laws::demand::refusal_writes_nothing`: proved in specs/Query. Assumes nothing.
-use Rattle.laws.specs.Query.{refused-buffer}
-use Rattle.laws.proofs.demand.refusal_writes_nothing.Statement.{statement}
-use Rattle.laws.proofs.demand.refusal_writes_nothing.Tie as tie
-
-pub refusal-writes-nothing-spec : {M : Type 1} → statement M
-refusal-writes-nothing-spec = tie.close (tie.spec (λ c. refused-buffer))

@@ -1,7 +1,0 @@
--- `laws::kept_is_unbeaten`: proved in specs/Select. Assumes nothing.
-use Rattle.laws.specs.Select.{kept-unbeaten}
-use Rattle.laws.proofs.kept_is_unbeaten.Statement.{statement}
-use Rattle.laws.proofs.kept_is_unbeaten.Tie as tie
-
-pub kept-is-unbeaten-spec : {M : Type 1} → statement M
-kept-is-unbeaten-spec = tie.close (tie.spec (λ c. kept-unbeaten))

@@ -1,7 +1,0 @@
--- `laws::reaches_is_path`: proved in specs/Reach. Assumes nothing.
-use Rattle.laws.specs.Reach.{reaches-path}
-use Rattle.laws.proofs.reaches_is_path.Statement.{statement}
-use Rattle.laws.proofs.reaches_is_path.Tie as tie
-
-pub reaches-is-path-spec : {M : Type 1} → statement M
-reaches-is-path-spec = tie.close (tie.spec (λ c. reaches-path))

@@ -1,7 +1,0 @@
--- `laws::unread_columns`: proved in specs/Unread. Assumes nothing.
-use Rattle.laws.specs.Unread.{unread-cells}
-use Rattle.laws.proofs.unread_columns.Statement.{statement}
-use Rattle.laws.proofs.unread_columns.Tie as tie
-
-pub unread-columns-spec : {M : Type 1} → statement M
-unread-columns-spec = tie.close (tie.spec (λ c. unread-cells))
