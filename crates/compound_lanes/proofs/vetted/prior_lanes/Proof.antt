@@ -1,4 +1,4 @@
--- `lanes::vetted::compound::prior_lanes` meets its contract. Assumes nothing.
+-- `compound_lanes::vetted::prior_lanes` meets its contract. Assumes nothing.
 use mathlib.Core.Path.{_≡_, refl, ap₂, _∙_}
 use Prim.Native.Nat.{_-_, _≤_}
 use native.Mathlib.Omega.{arith}
@@ -6,11 +6,11 @@ use native.Mathlib.Nat.{le-antisymm}
 use lib.ListN.{length, length-set}
 use borrow.Author.Needs.{needs}
 use Rattle.laws.specs.Codes.{priorCode}
 use Rattle.lanes.specs.Wrote.{Wrote}
 use Rattle.lanes.specs.Writes.{wrote-none, wrote-store}
-use Rattle.lanes.specs.Lanes.{priorLane}
-use Rattle.lanes.proofs.vetted.compound.prior_lanes.Statement.{statement}
-use Rattle.lanes.proofs.vetted.compound.prior_lanes.Tie as tie
+use Rattle.compound_lanes.specs.Compound.{priorLane}
+use Rattle.compound_lanes.proofs.vetted.prior_lanes.Statement.{statement}
+use Rattle.compound_lanes.proofs.vetted.prior_lanes.Tie as tie
 
 abbrev Inv-loop : tie.InvT-loop
 Inv-loop codes₀ a l r count j₀ codes j =

@@ -8,8 +8,8 @@ ghost use mathlib.Core.Path.{_≡_};
 ghost use Prim.Native.Nat.{_+_, _*_, _<_, _≤_};
 ghost use lib.ListN.{length};
 ghost use Rattle.beneath.specs.Beneath.{OfParts};
 ghost use Rattle.lanes.specs.Wrote.{Wrote};
-ghost use Rattle.lanes.specs.Lanes.{orLane, priorLane, joinedLane, turnedLane, compoundLane};
+ghost use Rattle.compound_lanes.specs.Compound.{orLane, priorLane, joinedLane, turnedLane, compoundLane};
 
 // Compound k's, where each record has `count`.
 pub fn compound_lanes(c: CompoundTerm, codes: &mut [u8], k: u8, count: usize)

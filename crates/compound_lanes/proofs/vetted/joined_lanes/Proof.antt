@@ -1,9 +1,9 @@
--- `lanes::vetted::compound::joined_lanes` meets its contract. Assumes nothing.
+-- `compound_lanes::vetted::joined_lanes` meets its contract. Assumes nothing.
 use borrow.Author.Needs.{needs}
 use Rattle.laws.specs.Codes.{joinedCode}
-use Rattle.lanes.specs.Lanes.{orLane, priorLane, joinedLane}
-use Rattle.lanes.proofs.vetted.compound.joined_lanes.Statement.{statement}
-use Rattle.lanes.proofs.vetted.compound.joined_lanes.Tie as tie
+use Rattle.compound_lanes.specs.Compound.{orLane, priorLane, joinedLane}
+use Rattle.compound_lanes.proofs.vetted.joined_lanes.Statement.{statement}
+use Rattle.compound_lanes.proofs.vetted.joined_lanes.Tie as tie
 
 enum-told : tie.Need-enum-told
 enum-told c = search needs

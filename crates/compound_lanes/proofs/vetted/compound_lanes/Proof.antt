@@ -1,10 +1,10 @@
--- `lanes::vetted::compound::compound_lanes` meets its contract. Assumes nothing.
+-- `compound_lanes::vetted::compound_lanes` meets its contract. Assumes nothing.
 use Prim.Native.Nat.{ℕ, _+_, _*_, _<_, _≤_}
 use native.Mathlib.Nat.{mul-le-mul-right, suc-mul}
 use native.Mathlib.Omega.{arith}
 use borrow.Author.Needs.{needs}
-use Rattle.lanes.proofs.vetted.compound.compound_lanes.Statement.{statement}
-use Rattle.lanes.proofs.vetted.compound.compound_lanes.Tie as tie
+use Rattle.compound_lanes.proofs.vetted.compound_lanes.Statement.{statement}
+use Rattle.compound_lanes.proofs.vetted.compound_lanes.Tie as tie
 
 -- A part's codes end where the compound's begin, or before.
 part-in : (count p k : ℕ) → p < k → p * count + count ≤ k * count
