@@ -1,4 +1,4 @@
--- `rank_stretches::vetted::mirror_stretch` meets its contract: the ranks of the first j rows. Assumes nothing.
+-- `distance_ranks::vetted::mirror_stretch` meets its contract: the ranks of the first j rows. Assumes nothing.
 use mathlib.Core.Path.{_≡_, refl}
 use Prim.Native.Nat.{_+_, _*_, _-_, _≤_}
 use native.Mathlib.Nat.{le-antisymm}
@@ -10,8 +10,8 @@ use borrow.Author.Needs.{needs}
 use Rattle.cells.specs.Stretch.{Stretch, stretch-none, stretch-more}
 use Rattle.rank.specs.Rank.{Mirrored}
 use Rattle.rank.proofs.Ranks.{mirror-fits, mirrored}
-use Rattle.rank_stretches.proofs.vetted.mirror_stretch.Statement.{statement}
-use Rattle.rank_stretches.proofs.vetted.mirror_stretch.Tie as tie
+use Rattle.distance_ranks.proofs.vetted.mirror_stretch.Statement.{statement}
+use Rattle.distance_ranks.proofs.vetted.mirror_stretch.Tie as tie
 
 abbrev Inv-loop : tie.InvT-loop
 Inv-loop columns rows from m at ranks₀ j₀ ranks j =

@@ -1,13 +1,13 @@
--- `rank_stretches::vetted::place_ranks` meets its contract. Assumes nothing.
+-- `class_ranks::vetted::place_ranks` meets its contract. Assumes nothing.
 use native.Mathlib.Omega.{arith}
 use denote.Ref.{now}
 use borrow.Author.Needs.{needs}
 use Rattle.rank.specs.Rank.{PlaceOf}
 use Rattle.value_lanes.specs.Put.{edgePlace}
-use Rattle.rank_stretches.proofs.Copied.{cells-stretch}
-use Rattle.rank_stretches.proofs.Classes.{place-is}
-use Rattle.rank_stretches.proofs.vetted.place_ranks.Statement.{statement}
-use Rattle.rank_stretches.proofs.vetted.place_ranks.Tie as tie
+use Rattle.class_ranks.specs.Copied.{cells-stretch}
+use Rattle.class_ranks.proofs.Classes.{place-is}
+use Rattle.class_ranks.proofs.vetted.place_ranks.Statement.{statement}
+use Rattle.class_ranks.proofs.vetted.place_ranks.Tie as tie
 
 slice-aggregate-copy-stretch : tie.Need-slice-aggregate-copy-stretch
 slice-aggregate-copy-stretch c = search needs

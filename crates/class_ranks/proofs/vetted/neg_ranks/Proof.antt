@@ -1,16 +1,16 @@
--- `rank_stretches::vetted::pos_ranks` meets its contract. Assumes nothing.
+-- `class_ranks::vetted::neg_ranks` meets its contract. Assumes nothing.
 use native.Mathlib.Omega.{arith}
 use lib.IntN.{pos}
 use denote.Ref.{now}
 use borrow.Author.Needs.{needs}
-use Rattle.model.specs.declared.BaseTerm.the-variants.{Pos}
+use Rattle.model.specs.declared.BaseTerm.the-variants.{Neg}
 use Rattle.laws.specs.Runs.{valuesBetween}
 use Rattle.rank.specs.Rank.{RankAt}
 use Rattle.value_lanes.specs.Put.{oneRole}
-use Rattle.rank_stretches.proofs.Copied.{cells-stretch}
-use Rattle.rank_stretches.proofs.Classes.{pos-is}
-use Rattle.rank_stretches.proofs.vetted.pos_ranks.Statement.{statement}
-use Rattle.rank_stretches.proofs.vetted.pos_ranks.Tie as tie
+use Rattle.class_ranks.specs.Copied.{cells-stretch}
+use Rattle.class_ranks.proofs.Classes.{neg-is}
+use Rattle.class_ranks.proofs.vetted.neg_ranks.Statement.{statement}
+use Rattle.class_ranks.proofs.vetted.neg_ranks.Tie as tie
 
 slice-aggregate-copy-stretch : tie.Need-slice-aggregate-copy-stretch
 slice-aggregate-copy-stretch c = search needs
@@ -34,11 +34,11 @@ returns c =
     let a = p .before .before .before .args in
     let t = now (a .table) in
     let values = valuesBetween t (a .k) (a .e) in
-    cells-stretch (RankAt t (a .k) (a .e) Pos) (a .columns) (now (a .rows)) (a .from) (a .m) (a .at) _ _
-    (oneRole values (pos 1) 1 (pos 0)) _ _ (pos-is values) (p .copy-stretch .ensures) (c .before .one-role .ensures)
+    cells-stretch (RankAt t (a .k) (a .e) Neg) (a .columns) (now (a .rows)) (a .from) (a .m) (a .at) _ _
+    (oneRole values (pos 0) 2 (pos 1)) _ _ (neg-is values) (p .copy-stretch .ensures) (c .before .one-role .ensures)
 
-pub pos-ranks-spec : {M : Type 1} → statement M
-pos-ranks-spec =
+pub neg-ranks-spec : {M : Type 1} → statement M
+neg-ranks-spec =
     tie.close
     (tie.spec
     slice-aggregate-copy-stretch

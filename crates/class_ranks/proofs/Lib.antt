@@ -1,3 +1,2 @@
 -- Laws that the proofs share.
-pub mod Copied
 pub mod Classes

@@ -1,4 +1,4 @@
--- `rank_stretches::vetted::pos_neg_ranks` meets its contract. Assumes nothing.
+-- `class_ranks::vetted::pos_neg_ranks` meets its contract. Assumes nothing.
 use native.Mathlib.Omega.{arith}
 use lib.IntN.{pos}
 use denote.Ref.{now}
@@ -7,10 +7,10 @@ use Rattle.model.specs.declared.BaseTerm.the-variants.{PosNeg}
 use Rattle.laws.specs.Runs.{valuesBetween}
 use Rattle.rank.specs.Rank.{RankAt}
 use Rattle.value_lanes.specs.Put.{twoRoles}
-use Rattle.rank_stretches.proofs.Copied.{cells-stretch}
-use Rattle.rank_stretches.proofs.Classes.{pos-neg-is}
-use Rattle.rank_stretches.proofs.vetted.pos_neg_ranks.Statement.{statement}
-use Rattle.rank_stretches.proofs.vetted.pos_neg_ranks.Tie as tie
+use Rattle.class_ranks.specs.Copied.{cells-stretch}
+use Rattle.class_ranks.proofs.Classes.{pos-neg-is}
+use Rattle.class_ranks.proofs.vetted.pos_neg_ranks.Statement.{statement}
+use Rattle.class_ranks.proofs.vetted.pos_neg_ranks.Tie as tie
 
 slice-aggregate-copy-stretch : tie.Need-slice-aggregate-copy-stretch
 slice-aggregate-copy-stretch c = search needs
