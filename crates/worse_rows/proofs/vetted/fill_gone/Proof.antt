@@ -1,14 +1,14 @@
--- `square_entries::vetted::fill_gone` meets its contract: the lines below i. Assumes nothing.
+-- `worse_rows::vetted::fill_gone` meets its contract: the lines below i. Assumes nothing.
 use mathlib.Core.Path.{_≡_, refl}
 use Prim.Native.Nat.{_-_, _≤_}
 use native.Mathlib.Nat.{le-antisymm}
 use native.Mathlib.Omega.{arith}
 use lib.ListN.{length}
 use borrow.Author.Needs.{needs}
-use Rattle.square_entries.specs.Worse.{Gone}
-use Rattle.square_entries.proofs.Loops.{gone-more}
-use Rattle.square_entries.proofs.vetted.fill_gone.Statement.{statement}
-use Rattle.square_entries.proofs.vetted.fill_gone.Tie as tie
+use Rattle.worse_rows.specs.Worse.{Gone}
+use Rattle.worse_rows.specs.Loops.{gone-more}
+use Rattle.worse_rows.proofs.vetted.fill_gone.Statement.{statement}
+use Rattle.worse_rows.proofs.vetted.fill_gone.Tie as tie
 
 abbrev Inv-loop : tie.InvT-loop
 Inv-loop n worse gone₀ i₀ gone i =

@@ -1,4 +1,4 @@
--- `square_entries::vetted::name_line` meets its contract. Assumes nothing.
+-- `worse_rows::vetted::name_line` meets its contract. Assumes nothing.
 use mathlib.Core.Path.{_≡_, refl}
 use Prim.Native.Nat.{_-_, _≤_}
 use native.Mathlib.Nat.{le-antisymm}
@@ -7,10 +7,10 @@ use lib.ListN.{length, length-set}
 use borrow.Author.Needs.{needs}
 use Rattle.lanes.specs.Wrote.{Wrote}
 use Rattle.lanes.specs.Writes.{wrote-none, wrote-head}
-use Rattle.square_entries.specs.Worse.{nameLane}
-use Rattle.square_entries.proofs.Loops.{name-stored}
-use Rattle.square_entries.proofs.vetted.name_line.Statement.{statement}
-use Rattle.square_entries.proofs.vetted.name_line.Tie as tie
+use Rattle.worse_rows.specs.Worse.{nameLane}
+use Rattle.worse_rows.specs.Loops.{name-stored}
+use Rattle.worse_rows.proofs.vetted.name_line.Statement.{statement}
+use Rattle.worse_rows.proofs.vetted.name_line.Tie as tie
 
 abbrev Inv-loop : tie.InvT-loop
 Inv-loop worse w by₀ at row j₀ by j =

@@ -1,8 +1,8 @@
--- `square_entries::vetted::name_row` meets its contract. Assumes nothing.
+-- `worse_rows::vetted::name_row` meets its contract. Assumes nothing.
 use borrow.Author.Needs.{needs}
-use Rattle.square_entries.proofs.Loops.{row-kept, row-gone}
-use Rattle.square_entries.proofs.vetted.name_row.Statement.{statement}
-use Rattle.square_entries.proofs.vetted.name_row.Tie as tie
+use Rattle.worse_rows.specs.Loops.{row-kept, row-gone}
+use Rattle.worse_rows.proofs.vetted.name_row.Statement.{statement}
+use Rattle.worse_rows.proofs.vetted.name_row.Tie as tie
 
 name-line-requires : tie.Need-name-line-requires
 name-line-requires c κs = search needs

@@ -15,7 +15,7 @@ use Rattle.model.specs.Search.{countBelow}
 use Rattle.laws.specs.Bools.{on-or-off}
 use Rattle.lanes.specs.Wrote.{Wrote}
 use Rattle.elimination.specs.Cases.{equal-or-not}
-use Rattle.square_entries.specs.Worse.{orBelow, goneLane, Gone, nameLane, rowLane, names, LowestFrom, LowestNamed}
+use Rattle.worse_rows.specs.Worse.{orBelow, goneLane, Gone, nameLane, rowLane, names, LowestFrom, LowestNamed}
 
 -- A lane of 16 that was written.
 lane : (f : ℕ → ℕ) (old new : List ℕ) → Wrote 0 f 0 16 old new → (j : ℕ) → j < 16 → getD new j 0 ≡ f j

@@ -1,7 +1,7 @@
--- `square_entries::vetted::pick` meets its contract. Assumes nothing.
+-- `worse_rows::vetted::pick` meets its contract. Assumes nothing.
 use borrow.Author.Tests.{eq-eqb, ne-eqb}
-use Rattle.square_entries.proofs.vetted.pick.Statement.{statement}
-use Rattle.square_entries.proofs.vetted.pick.Tie as tie
+use Rattle.worse_rows.proofs.vetted.pick.Statement.{statement}
+use Rattle.worse_rows.proofs.vetted.pick.Tie as tie
 
 returns : tie.Need-returns
 returns c = rw (eq-eqb _ _ (c .if1 .taken))

@@ -1,4 +1,4 @@
--- `square_entries::vetted::copy_entries` meets its contract: the rows below j. Assumes nothing.
+-- `worse_rows::vetted::copy_entries` meets its contract: the rows below j. Assumes nothing.
 use mathlib.Core.Path.{_≡_, refl}
 use Prim.Native.Nat.{_-_, _≤_}
 use native.Mathlib.Nat.{le-antisymm}
@@ -7,8 +7,8 @@ use lib.ListN.{length, length-set, getD}
 use borrow.Author.Needs.{needs}
 use Rattle.model.specs.Search.{fill}
 use Rattle.laws.specs.Fill.{fill-step}
-use Rattle.square_entries.proofs.vetted.copy_entries.Statement.{statement}
-use Rattle.square_entries.proofs.vetted.copy_entries.Tie as tie
+use Rattle.worse_rows.proofs.vetted.copy_entries.Statement.{statement}
+use Rattle.worse_rows.proofs.vetted.copy_entries.Tie as tie
 
 abbrev Inv-loop : tie.InvT-loop
 Inv-loop n by answers₀ j₀ answers j =

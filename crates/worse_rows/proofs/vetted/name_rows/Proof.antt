@@ -1,13 +1,13 @@
--- `square_entries::vetted::name_rows` meets its contract: the last k rows. Assumes nothing.
+-- `worse_rows::vetted::name_rows` meets its contract: the last k rows. Assumes nothing.
 use mathlib.Core.Path.{_≡_, refl}
 use Prim.Native.Nat.{_-_, _≤_}
 use native.Mathlib.Omega.{arith}
 use lib.ListN.{length}
 use borrow.Author.Needs.{needs}
-use Rattle.square_entries.specs.Worse.{LowestNamed}
-use Rattle.square_entries.proofs.Loops.{named-none, named-more}
-use Rattle.square_entries.proofs.vetted.name_rows.Statement.{statement}
-use Rattle.square_entries.proofs.vetted.name_rows.Tie as tie
+use Rattle.worse_rows.specs.Worse.{LowestNamed}
+use Rattle.worse_rows.specs.Loops.{named-none, named-more}
+use Rattle.worse_rows.proofs.vetted.name_rows.Statement.{statement}
+use Rattle.worse_rows.proofs.vetted.name_rows.Tie as tie
 
 abbrev Inv-loop : tie.InvT-loop
 Inv-loop n worse gone by₀ k₀ by k =

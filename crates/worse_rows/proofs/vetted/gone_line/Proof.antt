@@ -1,4 +1,4 @@
--- `square_entries::vetted::gone_line` meets its contract. Assumes nothing.
+-- `worse_rows::vetted::gone_line` meets its contract. Assumes nothing.
 use mathlib.Core.Path.{_≡_, refl}
 use mathlib.Core.Path.{_≡_, refl, ap₂}
 use Prim.Native.Nat.{_-_, _≤_}
@@ -9,9 +9,9 @@ use lib.Bits.{bitOr}
 use borrow.Author.Needs.{needs}
 use Rattle.lanes.specs.Wrote.{Wrote}
 use Rattle.lanes.specs.Writes.{wrote-none, wrote-head}
-use Rattle.square_entries.specs.Worse.{goneLane}
-use Rattle.square_entries.proofs.vetted.gone_line.Statement.{statement}
-use Rattle.square_entries.proofs.vetted.gone_line.Tie as tie
+use Rattle.worse_rows.specs.Worse.{goneLane}
+use Rattle.worse_rows.proofs.vetted.gone_line.Statement.{statement}
+use Rattle.worse_rows.proofs.vetted.gone_line.Tie as tie
 
 abbrev Inv-loop : tie.InvT-loop
 Inv-loop worse at gone₀ j₀ gone j =

@@ -1,4 +1,4 @@
--- `square_entries::vetted::count_kept` meets its contract: the rows below j. Assumes nothing.
+-- `worse_rows::vetted::count_kept` meets its contract: the rows below j. Assumes nothing.
 use mathlib.Core.Path.{_≡_, refl, ap, _∙_}
 use mathlib.Core.Bool.{Bool}
 use Prim.Native.Nat.{ℕ, _+_, _-_, _≤_}
@@ -11,9 +11,9 @@ use borrow.Author.Needs.{needs}
 use Rattle.model.specs.Search.{countBelow}
 use Rattle.laws.specs.Search.{count-bound}
 use Rattle.lanes.proofs.Tests.{byte-small}
-use Rattle.square_entries.proofs.Loops.{count-more}
-use Rattle.square_entries.proofs.vetted.count_kept.Statement.{statement}
-use Rattle.square_entries.proofs.vetted.count_kept.Tie as tie
+use Rattle.worse_rows.specs.Loops.{count-more}
+use Rattle.worse_rows.proofs.vetted.count_kept.Statement.{statement}
+use Rattle.worse_rows.proofs.vetted.count_kept.Tie as tie
 
 abbrev Inv-loop : tie.InvT-loop
 Inv-loop n gone kept₀ j₀ kept j =

@@ -1,4 +1,4 @@
--- `square_entries::vetted::fill_worse` meets its contract. Assumes nothing.
+-- `worse_rows::vetted::fill_worse` meets its contract. Assumes nothing.
 use mathlib.Core.Path.{_≡_, refl}
 use Prim.Native.Nat.{_-_, _≤_}
 use native.Mathlib.Nat.{le-antisymm}
@@ -8,9 +8,9 @@ use mir.Val.{boolByte}
 use borrow.Author.Needs.{needs}
 use Rattle.lanes.specs.Wrote.{Wrote}
 use Rattle.lanes.specs.Writes.{wrote-none, wrote-head}
-use Rattle.square_entries.specs.Worse.{worseAt}
-use Rattle.square_entries.proofs.vetted.fill_worse.Statement.{statement}
-use Rattle.square_entries.proofs.vetted.fill_worse.Tie as tie
+use Rattle.worse_rows.specs.Worse.{worseAt}
+use Rattle.worse_rows.proofs.vetted.fill_worse.Statement.{statement}
+use Rattle.worse_rows.proofs.vetted.fill_worse.Tie as tie
 
 abbrev Inv-loop : tie.InvT-loop
 Inv-loop apart codes a worse₀ p₀ worse p =
