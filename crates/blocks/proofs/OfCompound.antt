@@ -16,7 +16,7 @@ use Rattle.laws.specs.AcceptedKinds.{accepted-joined, accepted-dual}
 use Rattle.beneath.specs.Beneath.{OfParts, parts-low}
 use Rattle.beneath.specs.Codes.{joined-code-is, dual-code-is}
 use Rattle.lanes.specs.Wrote.{Wrote}
-use Rattle.lanes.specs.Lanes.{joinedLane, turnedLane, compoundLane}
+use Rattle.compound_lanes.specs.Compound.{joinedLane, turnedLane, compoundLane}
 use Rattle.blocks.specs.Blocks.{Ready, AtRecord, Coded}
 use Rattle.blocks.proofs.Coded.{ok, below, coded-more}
 

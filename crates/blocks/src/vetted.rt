@@ -1,11 +1,11 @@
 // The codes of row i against the rows of block b under each record beneath the asked term, upward. A base record's come from
 // ranks and values, a compound's from its parts' codes and nothing else. No public calls: each asks what was prepared before.
 use base_lanes::vetted::base_codes;
+use compound_lanes::vetted::compound_lanes;
 use known::vetted::all_known;
 use known::vetted::put_known;
 use known::vetted::start_known;
 use known::vetted::tell_lanes;
-use lanes::vetted::compound::compound_lanes;
 use model::Record;
 use values::vetted::lookup::decoded;
 ghost use Prim.Native.Nat.{_+_, _*_, _<_, _≤_};

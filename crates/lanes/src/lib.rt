@@ -1,2 +1,2 @@
-// Codes of one row against the rows of a block or a square.
+// Codes of a base record, of one row against the rows of a block or a square.
 pub mod vetted;

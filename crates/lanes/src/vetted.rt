@@ -3,4 +3,3 @@
 // for that row, cut to the block (the report's Definition 17b): the lanes with 2 are the rows that are better, those with 1
 // the rows that are worse, and those with 0 the equal ones.
 pub mod base;
-pub mod compound;

@@ -1,20 +1,22 @@
 // The ranks of m rows in one stretch: their cells stand `columns` apart from `from` on, the ranks go to the entries from `at` on.
-// No public calls: each asks what the calls of Query have shown before.
+// No public call: it asks what the calls of Query have shown before.
 use cells::vetted::copy_stretch;
+use class_ranks::vetted::neg_ranks;
+use class_ranks::vetted::place_ranks;
+use class_ranks::vetted::pos_neg_ranks;
+use class_ranks::vetted::pos_pos_ranks;
+use class_ranks::vetted::pos_ranks;
+use distance_ranks::vetted::around_stretch;
+use distance_ranks::vetted::between_stretch;
+use distance_ranks::vetted::mirror_stretch;
 use model::BaseTerm;
-use rank::vetted::around_rank;
-use rank::vetted::between_rank;
-use value_lanes::vetted::one_role;
-use value_lanes::vetted::places;
 use value_lanes::vetted::put_all;
-use value_lanes::vetted::two_roles;
 ghost use Prim.Native.Nat.{_≤_};
 ghost use lib.ListN.{length};
-ghost use Rattle.model.specs.declared.BaseTerm.the-variants.{Pos, Neg, PosNeg, PosPos, Explicit};
 ghost use Rattle.terms.specs.Run.{Values};
 ghost use Rattle.values.specs.Prepared.{Numbers};
 ghost use Rattle.cells.specs.Stretch.{Stretch, StretchIn};
-ghost use Rattle.rank.specs.Rank.{Mirrored, RankAround, RankBetween, RankAt};
+ghost use Rattle.rank.specs.Rank.{RankAt};
 
 // Goes by the term's kind once, so that the loops over rows of the frequent kinds have no choice in them.
 pub fn fill_stretch(
@@ -47,172 +49,4 @@ pub fn fill_stretch(
         BaseTerm::Explicit => place_ranks(table, numbers, k, e, columns, rows, from, m, at, ranks),
         BaseTerm::Any => put_all(0, m, at, ranks),
     }
-}
-
-// HIGHEST: the higher cell has the lower rank.
-fn mirror_stretch(columns: usize, rows: &[i32], from: usize, m: usize, at: usize, ranks: &mut [i32])
-    requires { ⌜ StretchIn columns (length (now rows)) from m at (length (now ranks)) ⌝ }
-    ensures { λ _. ⌜ Stretch Mirrored columns (now (rows .entry)) from m at (now (ranks .entry)) (now (ranks .exit)) ⌝ }
-{
-    let mut j = 0;
-    while j < m {
-        ranks[at + j] = -1 - rows[from + j * columns];
-        j += 1;
-    }
-}
-
-// AROUND: by distance to the wish.
-fn around_stretch(
-    wish: i32,
-    columns: usize,
-    rows: &[i32],
-    from: usize,
-    m: usize,
-    at: usize,
-    ranks: &mut [i32],
-)
-    requires { ⌜ StretchIn columns (length (now rows)) from m at (length (now ranks)) ⌝ }
-    ensures { λ _. ⌜ Stretch (RankAround wish) columns (now (rows .entry)) from m at (now (ranks .entry)) (now (ranks .exit)) ⌝ }
-{
-    let mut j = 0;
-    while j < m {
-        ranks[at + j] = around_rank(wish, rows[from + j * columns]);
-        j += 1;
-    }
-}
-
-// BETWEEN: by distance to the nearer bound.
-fn between_stretch(
-    low: i32,
-    up: i32,
-    columns: usize,
-    rows: &[i32],
-    from: usize,
-    m: usize,
-    at: usize,
-    ranks: &mut [i32],
-)
-    requires { ⌜ StretchIn columns (length (now rows)) from m at (length (now ranks)) ⌝ }
-    ensures { λ _. ⌜ Stretch (RankBetween low up) columns (now (rows .entry)) from m at (now (ranks .entry)) (now (ranks .exit)) ⌝ }
-{
-    let mut j = 0;
-    while j < m {
-        ranks[at + j] = between_rank(low, up, rows[from + j * columns]);
-        j += 1;
-    }
-}
-
-// POS: favourites 0, others 1. The cells first, so that each value goes over all of them.
-fn pos_ranks(
-    table: &[u8],
-    numbers: &[i32; 256],
-    k: u8,
-    e: u8,
-    columns: usize,
-    rows: &[i32],
-    from: usize,
-    m: usize,
-    at: usize,
-    ranks: &mut [i32],
-)
-    requires { ⌜ Values (now table) k e × Numbers (now table) (now numbers) × (m ≤ 64)
-        × StretchIn columns (length (now rows)) from m at (length (now ranks)) ⌝ }
-    ensures { λ _. ⌜ Stretch (RankAt (now (table .entry)) k e Pos) columns (now (rows .entry)) from m at
-        (now (ranks .entry)) (now (ranks .exit)) ⌝ }
-{
-    let mut cells = [0i32; 64];
-    copy_stretch(columns, rows, from, m, 0, &mut cells);
-    one_role(table, numbers, k, e, 1, 1, 0, &cells, m, at, ranks);
-}
-
-// NEG: others 0, disliked 1.
-fn neg_ranks(
-    table: &[u8],
-    numbers: &[i32; 256],
-    k: u8,
-    e: u8,
-    columns: usize,
-    rows: &[i32],
-    from: usize,
-    m: usize,
-    at: usize,
-    ranks: &mut [i32],
-)
-    requires { ⌜ Values (now table) k e × Numbers (now table) (now numbers) × (m ≤ 64)
-        × StretchIn columns (length (now rows)) from m at (length (now ranks)) ⌝ }
-    ensures { λ _. ⌜ Stretch (RankAt (now (table .entry)) k e Neg) columns (now (rows .entry)) from m at
-        (now (ranks .entry)) (now (ranks .exit)) ⌝ }
-{
-    let mut cells = [0i32; 64];
-    copy_stretch(columns, rows, from, m, 0, &mut cells);
-    one_role(table, numbers, k, e, 0, 2, 1, &cells, m, at, ranks);
-}
-
-// POS/NEG: favourites 0, others 1, disliked 2.
-fn pos_neg_ranks(
-    table: &[u8],
-    numbers: &[i32; 256],
-    k: u8,
-    e: u8,
-    columns: usize,
-    rows: &[i32],
-    from: usize,
-    m: usize,
-    at: usize,
-    ranks: &mut [i32],
-)
-    requires { ⌜ Values (now table) k e × Numbers (now table) (now numbers) × (m ≤ 64)
-        × StretchIn columns (length (now rows)) from m at (length (now ranks)) ⌝ }
-    ensures { λ _. ⌜ Stretch (RankAt (now (table .entry)) k e PosNeg) columns (now (rows .entry)) from m at
-        (now (ranks .entry)) (now (ranks .exit)) ⌝ }
-{
-    let mut cells = [0i32; 64];
-    copy_stretch(columns, rows, from, m, 0, &mut cells);
-    two_roles(table, numbers, k, e, 1, 2, 2, &cells, m, at, ranks);
-}
-
-// POS/POS: favourites 0, second choices 1, others 2.
-fn pos_pos_ranks(
-    table: &[u8],
-    numbers: &[i32; 256],
-    k: u8,
-    e: u8,
-    columns: usize,
-    rows: &[i32],
-    from: usize,
-    m: usize,
-    at: usize,
-    ranks: &mut [i32],
-)
-    requires { ⌜ Values (now table) k e × Numbers (now table) (now numbers) × (m ≤ 64)
-        × StretchIn columns (length (now rows)) from m at (length (now ranks)) ⌝ }
-    ensures { λ _. ⌜ Stretch (RankAt (now (table .entry)) k e PosPos) columns (now (rows .entry)) from m at
-        (now (ranks .entry)) (now (ranks .exit)) ⌝ }
-{
-    let mut cells = [0i32; 64];
-    copy_stretch(columns, rows, from, m, 0, &mut cells);
-    two_roles(table, numbers, k, e, 2, 3, 1, &cells, m, at, ranks);
-}
-
-// EXPLICIT: a place among the ends of the edges.
-fn place_ranks(
-    table: &[u8],
-    numbers: &[i32; 256],
-    k: u8,
-    e: u8,
-    columns: usize,
-    rows: &[i32],
-    from: usize,
-    m: usize,
-    at: usize,
-    ranks: &mut [i32],
-)
-    requires { ⌜ Values (now table) k e × Numbers (now table) (now numbers) × (m ≤ 64)
-        × StretchIn columns (length (now rows)) from m at (length (now ranks)) ⌝ }
-    ensures { λ _. ⌜ Stretch (RankAt (now (table .entry)) k e Explicit) columns (now (rows .entry)) from m at
-        (now (ranks .entry)) (now (ranks .exit)) ⌝ }
-{
-    let mut cells = [0i32; 64];
-    copy_stretch(columns, rows, from, m, 0, &mut cells);
-    places(table, numbers, k, e, &cells, m, at, ranks);
 }

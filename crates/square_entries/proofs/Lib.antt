@@ -1,3 +1,2 @@
--- The lists that the loops leave, and the answers from them.
-pub mod Loops
+-- The answers from the lists that the loops leave.
 pub mod Selects

@@ -21,7 +21,7 @@ use Rattle.lanes.specs.Wrote.{Wrote}
 use Rattle.elimination.specs.Elimination.{Settled}
 use Rattle.elimination.specs.Rounds.{count-kept}
 use Rattle.selection.specs.Selected.{Selected}
-use Rattle.square_entries.specs.Worse.{worseAt, Beating, orBelow, Gone, names, LowestFrom, LowestNamed}
+use Rattle.worse_rows.specs.Worse.{worseAt, Beating, orBelow, Gone, names, LowestFrom, LowestNamed}
 
 or-byte : (a b : Bool) → bitOr (boolByte a) (boolByte b) ≡ boolByte (a || b)
 or-byte true true = refl

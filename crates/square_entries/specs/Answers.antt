@@ -18,7 +18,7 @@ use Rattle.laws.specs.Sound.{sound, within}
 use Rattle.elimination.specs.Beats.{beats-one}
 use Rattle.squares.specs.Square.{SquareOf}
 use Rattle.square_groups.specs.Apart.{Parted}
-use Rattle.square_entries.specs.Worse.{worseAt, Beating}
+use Rattle.worse_rows.specs.Worse.{worseAt, Beating}
 
 -- ---- row i beats row j
 

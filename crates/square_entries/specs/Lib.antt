@@ -1,3 +1,2 @@
--- Which row beats which by the squares, and the answers.
-pub mod Worse
+-- Which row beats which by the squares.
 pub mod Answers

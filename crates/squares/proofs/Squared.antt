@@ -26,7 +26,7 @@ use Rattle.classes.specs.Places.{BaseTermAt}
 use Rattle.beneath.specs.Beneath.{OfParts, parts-low}
 use Rattle.beneath.specs.Codes.{of-base, base-sound, base-code-is, joined-code-is, dual-code-is}
 use Rattle.lanes.specs.Wrote.{Wrote}
-use Rattle.lanes.specs.Lanes.{joinedLane, turnedLane, compoundLane}
+use Rattle.compound_lanes.specs.Compound.{joinedLane, turnedLane, compoundLane}
 use Rattle.base_squares.specs.Base.{FewRows, Lines, cellLine}
 use Rattle.squares.specs.Square.{SquareOf, SquareReady, Squared}
 

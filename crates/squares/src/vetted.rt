@@ -1,6 +1,6 @@
 // Squares of codes. No public calls: each asks what was prepared before.
 use base_squares::vetted::base_square;
-use lanes::vetted::compound::compound_lanes;
+use compound_lanes::vetted::compound_lanes;
 use model::Record;
 use values::vetted::lookup::decoded;
 ghost use Prim.Native.Nat.{_+_, _*_, _≤_};

@@ -3,7 +3,7 @@ use mathlib.Core.Path.{refl}
 use borrow.Author.Needs.{needs}
 use Rattle.records.proofs.Signed.{returned}
 use Rattle.rank.specs.Rank.{rankOf}
-use Rattle.rank_stretches.proofs.Copied.{one-stretch}
+use Rattle.class_ranks.specs.Copied.{one-stretch}
 use Rattle.rank_stretches.proofs.vetted.fill_stretch.Statement.{statement}
 use Rattle.rank_stretches.proofs.vetted.fill_stretch.Tie as tie
 

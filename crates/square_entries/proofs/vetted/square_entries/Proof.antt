@@ -1,7 +1,7 @@
 -- `square_entries::vetted::square_entries` meets its contract. Assumes nothing.
 use native.Mathlib.Omega.{arith}
 use borrow.Author.Needs.{needs}
-use Rattle.square_entries.proofs.Loops.{gone-none}
+use Rattle.worse_rows.specs.Loops.{gone-none}
 use Rattle.square_entries.proofs.Selects.{entries-selected, worse-told, own-at}
 use Rattle.square_entries.proofs.vetted.square_entries.Statement.{statement}
 use Rattle.square_entries.proofs.vetted.square_entries.Tie as tie

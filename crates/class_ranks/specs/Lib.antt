@@ -1,0 +1,2 @@
+-- Entries written in a row as a stretch.
+pub mod Copied

@@ -1,0 +1,2 @@
+// The ranks of the rows of a stretch under HIGHEST, AROUND and BETWEEN.
+pub mod vetted;

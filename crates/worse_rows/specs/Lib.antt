@@ -1,0 +1,3 @@
+-- What the loops over a square leave.
+pub mod Worse
+pub mod Loops
