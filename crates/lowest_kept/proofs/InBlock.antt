@@ -13,7 +13,7 @@ use Rattle.laws.specs.Order.{Rel}
 use Rattle.elimination.specs.Cases.{below-or-not, equal-or-not}
 use Rattle.elimination.specs.Elimination.{Settled}
 use Rattle.lit_lanes.specs.Lit.{free, hit}
-use Rattle.rounds.proofs.Hits.{Hits, Dark, in-block}
+use Rattle.block_hits.specs.Hits.{Hits, Dark, in-block}
 use Rattle.lowest_kept.specs.Named.{keptBetter, named, LowestIn}
 
 -- No row below m is kept and better than row i.

@@ -17,7 +17,7 @@ use Rattle.lanes.specs.Wrote.{Wrote}
 use Rattle.lit_lanes.specs.Lit.{pending, hit}
 use Rattle.lane_marks.specs.Marks.{nameLane}
 use Rattle.live.specs.Alive.{Beyond}
-use Rattle.rounds.proofs.Hits.{Hits, Dark, in-block}
+use Rattle.block_hits.specs.Hits.{Hits, Dark, in-block}
 use Rattle.lowest_kept.specs.Named.{named, Right, Named}
 use Rattle.naming.specs.Naming.{Naming}
 use Rattle.naming.proofs.Lowest.{named-next, named-dropped}

@@ -2,7 +2,7 @@
 -- Assumes nothing.
 use mathlib.Core.Path.{sym, _∙_}
 use borrow.Author.Needs.{needs}
-use Rattle.rounds.proofs.Hits.{cells, ready-hits, ready-dark}
+use Rattle.block_hits.specs.Hits.{cells, ready-hits, ready-dark}
 use Rattle.lowest_kept.proofs.InBlock.{dark-lowest, hits-lowest, hits-none}
 use Rattle.lowest_kept.proofs.vetted.better_in_block.Statement.{statement}
 use Rattle.lowest_kept.proofs.vetted.better_in_block.Tie as tie

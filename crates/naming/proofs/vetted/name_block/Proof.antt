@@ -2,7 +2,7 @@
 use mathlib.Core.Path.{sym, _∙_}
 use native.Mathlib.Omega.{arith}
 use borrow.Author.Needs.{needs}
-use Rattle.rounds.proofs.Hits.{cells, asked-below, row-below, ready-hits, ready-dark}
+use Rattle.block_hits.specs.Hits.{cells, asked-below, row-below, ready-hits, ready-dark}
 use Rattle.lowest_kept.proofs.Rows.{kept-of}
 use Rattle.naming.proofs.Names.{names-some, names-none, beyond-some}
 use Rattle.naming.proofs.vetted.name_block.Statement.{statement}

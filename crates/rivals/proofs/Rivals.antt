@@ -15,7 +15,7 @@ use Rattle.model.specs.Query.{rowAt}
 use Rattle.laws.specs.Bools.{on-or-off}
 use Rattle.lit_lanes.specs.Lit.{free, lit}
 use Rattle.live.specs.Alive.{Alive}
-use Rattle.rounds.specs.Rivals.{rival, LeftOut}
+use Rattle.rivals.specs.Rivals.{rival, LeftOut}
 
 own-off : (a c : Bool) → false ≡ ((a && false) && c)
 own-off true c = refl

@@ -1,8 +1,8 @@
--- `rounds::vetted::meetings::leave_out` meets its contract. Assumes nothing.
+-- `rivals::vetted::leave_out` meets its contract. Assumes nothing.
 use borrow.Author.Needs.{needs}
-use Rattle.rounds.proofs.Rivals.{left-own, left-none}
-use Rattle.rounds.proofs.vetted.meetings.leave_out.Statement.{statement}
-use Rattle.rounds.proofs.vetted.meetings.leave_out.Tie as tie
+use Rattle.rivals.proofs.Rivals.{left-own, left-none}
+use Rattle.rivals.proofs.vetted.leave_out.Statement.{statement}
+use Rattle.rivals.proofs.vetted.leave_out.Tie as tie
 
 slice-write-live : tie.Need-slice-write-live
 slice-write-live c = search needs

@@ -1,12 +1,12 @@
--- `rounds::vetted::meetings::meet_block` meets its contract: a row is gone that row i beats, and row i is beaten where
+-- `block_meetings::vetted::meet_block` meets its contract: a row is gone that row i beats, and row i is beaten where
 -- a lit lane has code 2. Assumes nothing.
 use mathlib.Core.Path.{sym, _∙_}
 use native.Mathlib.Omega.{arith}
 use borrow.Author.Needs.{needs}
-use Rattle.rounds.proofs.Hits.{cells, asked-below, ready-hits, ready-dark}
-use Rattle.rounds.proofs.Meets.{meets-some, meets-none, firsts-some, above-some}
-use Rattle.rounds.proofs.vetted.meetings.meet_block.Statement.{statement}
-use Rattle.rounds.proofs.vetted.meetings.meet_block.Tie as tie
+use Rattle.block_hits.specs.Hits.{cells, asked-below, ready-hits, ready-dark}
+use Rattle.block_hits.specs.Meets.{meets-some, meets-none, firsts-some, above-some}
+use Rattle.block_meetings.proofs.vetted.meet_block.Statement.{statement}
+use Rattle.block_meetings.proofs.vetted.meet_block.Tie as tie
 
 slice-aggregate-rivals-alive : tie.Need-slice-aggregate-rivals-alive
 slice-aggregate-rivals-alive c = search needs

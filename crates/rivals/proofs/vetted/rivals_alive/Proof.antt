@@ -1,8 +1,8 @@
--- `rounds::vetted::meetings::rivals_alive` meets its contract. Assumes nothing.
+-- `rivals::vetted::rivals_alive` meets its contract. Assumes nothing.
 use borrow.Author.Needs.{needs}
-use Rattle.rounds.proofs.Rivals.{rivals-alive}
-use Rattle.rounds.proofs.vetted.meetings.rivals_alive.Statement.{statement}
-use Rattle.rounds.proofs.vetted.meetings.rivals_alive.Tie as tie
+use Rattle.rivals.proofs.Rivals.{rivals-alive}
+use Rattle.rivals.proofs.vetted.rivals_alive.Statement.{statement}
+use Rattle.rivals.proofs.vetted.rivals_alive.Tie as tie
 
 free-alive-requires : tie.Need-free-alive-requires
 free-alive-requires c κs = search needs

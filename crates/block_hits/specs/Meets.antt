@@ -24,9 +24,9 @@ use Rattle.elimination.specs.Rounds.{rounds-more, turn-more, turn-met}
 use Rattle.lanes.specs.Wrote.{Wrote}
 use Rattle.lit_lanes.specs.Lit.{free, hit}
 use Rattle.lane_marks.specs.Marks.{goneLane, nameLane}
-use Rattle.rounds.specs.Rivals.{rival}
+use Rattle.rivals.specs.Rivals.{rival}
 use Rattle.live.specs.Alive.{Above}
-use Rattle.rounds.proofs.Hits.{Hits, Dark, in-block}
+use Rattle.block_hits.specs.Hits.{Hits, Dark, in-block}
 
 -- ---- one lane
 
