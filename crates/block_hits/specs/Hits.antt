@@ -29,7 +29,8 @@ use Rattle.elimination.specs.Elimination.{Apart}
 use Rattle.elimination.specs.Beats.{beats-one, beats-two}
 use Rattle.lit_lanes.specs.Lit.{lit, hit}
 use Rattle.live.specs.Alive.{Cells, Alive}
-use Rattle.blocks.specs.Blocks.{Ready, AskedCoded}
+use Rattle.record_codes.specs.Ready.{Ready}
+use Rattle.blocks.specs.Blocks.{AskedCoded}
 
 -- Of the lanes that pass, those with code 1 are beaten by row i and those with code 2 beat it.
 pub record Hits (beats : Rel ℕ) (n i lo : ℕ) (pass : ℕ → Bool) (live codes : List ℕ) (top : ℕ) : Type 0 where

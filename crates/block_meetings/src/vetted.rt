@@ -15,7 +15,7 @@ ghost use Rattle.elimination.specs.Elimination.{Turn, Met};
 ghost use Rattle.elimination.specs.Firsts.{Firsts};
 ghost use Rattle.keys.specs.Keys.{Keyed};
 ghost use Rattle.live.specs.Alive.{Above};
-ghost use Rattle.blocks.specs.Blocks.{Ready};
+ghost use Rattle.record_codes.specs.Ready.{Ready};
 
 // Row i meets the rows of block b that are not gone, in its group. Those that it beats are gone; says whether one of them
 // is better.

@@ -15,7 +15,7 @@ ghost use Rattle.elimination.specs.Elimination.{Settled};
 ghost use Rattle.keys.specs.Keys.{Keyed};
 ghost use Rattle.lit_lanes.specs.Lit.{hit};
 ghost use Rattle.live.specs.Alive.{Above};
-ghost use Rattle.blocks.specs.Blocks.{Ready};
+ghost use Rattle.record_codes.specs.Ready.{Ready};
 ghost use Rattle.lowest_kept.specs.Named.{named, Named, NamedTo, LowestIn};
 
 // Every row that is gone and has no name gets one, row after row.

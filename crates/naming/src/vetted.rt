@@ -15,7 +15,7 @@ ghost use Rattle.model.specs.Query.{beatsIn};
 ghost use Rattle.elimination.specs.Elimination.{Settled};
 ghost use Rattle.keys.specs.Keys.{Keyed};
 ghost use Rattle.live.specs.Alive.{Above, Beyond};
-ghost use Rattle.blocks.specs.Blocks.{Ready};
+ghost use Rattle.record_codes.specs.Ready.{Ready};
 ghost use Rattle.lowest_kept.specs.Named.{Named};
 ghost use Rattle.naming.specs.Naming.{Naming};
 

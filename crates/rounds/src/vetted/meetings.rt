@@ -10,7 +10,7 @@ ghost use Rattle.elimination.specs.Elimination.{Rounds, Settled};
 ghost use Rattle.elimination.specs.Firsts.{Firsts};
 ghost use Rattle.keys.specs.Keys.{Keyed};
 ghost use Rattle.live.specs.Alive.{Above};
-ghost use Rattle.blocks.specs.Blocks.{Ready};
+ghost use Rattle.record_codes.specs.Ready.{Ready};
 
 // All rounds, with no row gone at first: a row is not gone exactly where it is kept.
 pub fn eliminate(

@@ -1,4 +1,4 @@
--- `blocks::vetted::record_codes` meets its contract. Assumes nothing.
+-- `record_codes::vetted::record_codes` meets its contract. Assumes nothing.
 use mathlib.Core.Path.{sym, _∙_, ap}
 use Prim.Native.Nat.{_+_, _*_, _/_, _%_, _<_, _≤_}
 use native.Mathlib.Omega.{arith}
@@ -10,11 +10,11 @@ use denote.Ref.{now}
 use borrow.Author.Needs.{needs, sfits-of}
 use Rattle.model.specs.Record.{isTerm}
 use Rattle.beneath.specs.Codes.{column-below}
-use Rattle.blocks.proofs.Coded.{ok, below, coded-other, record-below, rank-place, ranks-end, value-room}
-use Rattle.blocks.proofs.OfBase.{base-asked, base-room, base-coded}
-use Rattle.blocks.proofs.OfCompound.{parts-below, compound-coded}
-use Rattle.blocks.proofs.vetted.record_codes.Statement.{statement}
-use Rattle.blocks.proofs.vetted.record_codes.Tie as tie
+use Rattle.record_codes.specs.Coded.{ok, below, coded-other, record-below, rank-place, ranks-end, value-room}
+use Rattle.record_codes.proofs.OfBase.{base-asked, base-room, base-coded}
+use Rattle.record_codes.proofs.OfCompound.{parts-below, compound-coded}
+use Rattle.record_codes.proofs.vetted.record_codes.Statement.{statement}
+use Rattle.record_codes.proofs.vetted.record_codes.Tie as tie
 
 -- The place of row i's rank,
 row-rank : (s : tie.Start)

@@ -19,7 +19,7 @@ use Rattle.laws.specs.Accepted.{Accepted}
 use Rattle.laws.specs.AcceptedTable.{accepted-table}
 use Rattle.values.specs.Prepared.{NextTerm}
 use Rattle.cells.specs.Places.{place-in}
-use Rattle.blocks.specs.Blocks.{Ready, AtRecord, Coded}
+use Rattle.record_codes.specs.Ready.{Ready, AtRecord, Coded}
 
 module _ {table : List ℕ} {marks : List Bool} {columns : ℕ} {rows : List ℤ} {n i b : ℕ} where
   -- Below record 0 there is none.

@@ -15,8 +15,8 @@ use Rattle.values.specs.Prepared.{Run}
 use Rattle.beneath.specs.Codes.{of-base, column-below, base-sound, base-code-is}
 use Rattle.rank.specs.Rank.{RankAt}
 use Rattle.base_lanes.specs.Base.{BaseAsked, BaseRoom, BaseCoded}
-use Rattle.blocks.specs.Blocks.{Ready, AtRecord, Coded}
-use Rattle.blocks.proofs.Coded.{ok, below, record-below, ranks-end, coded-more}
+use Rattle.record_codes.specs.Ready.{Ready, AtRecord, Coded}
+use Rattle.record_codes.specs.Coded.{ok, below, record-below, ranks-end, coded-more}
 
 module _ {table : List ℕ} {numbers : List ℤ} {ends : List ℕ} {reach : List (List Bool)} {marks : List Bool}
     {exits : List ℕ} {term columns : ℕ} {rows : List ℤ} {n stride : ℕ} {ranks values : List ℤ}

@@ -17,8 +17,8 @@ use Rattle.beneath.specs.Beneath.{OfParts, parts-low}
 use Rattle.beneath.specs.Codes.{joined-code-is, dual-code-is}
 use Rattle.lanes.specs.Wrote.{Wrote}
 use Rattle.lanes.specs.Lanes.{joinedLane, turnedLane, compoundLane}
-use Rattle.blocks.specs.Blocks.{Ready, AtRecord, Coded}
-use Rattle.blocks.proofs.Coded.{ok, below, coded-more}
+use Rattle.record_codes.specs.Ready.{Ready, AtRecord, Coded}
+use Rattle.record_codes.specs.Coded.{ok, below, coded-more}
 
 module _ {table : List ℕ} {numbers : List ℤ} {ends : List ℕ} {reach : List (List Bool)} {marks : List Bool}
     {exits : List ℕ} {term columns : ℕ} {rows : List ℤ} {n stride : ℕ} {ranks values : List ℤ}
