@@ -1,11 +1,11 @@
--- `lowest_kept::vetted::better_in_block` meets its contract: a row is kept and beats row i where a lit lane has code 2.
+-- `lowest_in_block::vetted::better_in_block` meets its contract: a row is kept and beats row i where a lit lane has code 2.
 -- Assumes nothing.
 use mathlib.Core.Path.{sym, _∙_}
 use borrow.Author.Needs.{needs}
 use Rattle.block_hits.specs.Hits.{cells, ready-hits, ready-dark}
-use Rattle.lowest_kept.proofs.InBlock.{dark-lowest, hits-lowest, hits-none}
-use Rattle.lowest_kept.proofs.vetted.better_in_block.Statement.{statement}
-use Rattle.lowest_kept.proofs.vetted.better_in_block.Tie as tie
+use Rattle.lowest_in_block.proofs.InBlock.{dark-lowest, hits-lowest, hits-none}
+use Rattle.lowest_in_block.proofs.vetted.better_in_block.Statement.{statement}
+use Rattle.lowest_in_block.proofs.vetted.better_in_block.Tie as tie
 
 slice-aggregate-free-alive : tie.Need-slice-aggregate-free-alive
 slice-aggregate-free-alive c = search needs

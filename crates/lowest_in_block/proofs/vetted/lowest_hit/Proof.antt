@@ -1,4 +1,4 @@
--- `lowest_kept::vetted::lowest_hit` meets its contract: no lane below j is lit with code 2. Assumes nothing.
+-- `lowest_in_block::vetted::lowest_hit` meets its contract: no lane below j is lit with code 2. Assumes nothing.
 use mathlib.Core.Path.{_≡_}
 use mathlib.Core.Bool.{false}
 use Prim.Native.Nat.{ℕ, _-_, _≤_, _<_}
@@ -7,9 +7,9 @@ use native.Mathlib.Omega.{arith}
 use borrow.Author.Needs.{needs}
 use Rattle.laws.specs.Search.{find-is, find-none}
 use Rattle.lit_lanes.specs.Lit.{lit, hit}
-use Rattle.lowest_kept.proofs.InBlock.{miss-more}
-use Rattle.lowest_kept.proofs.vetted.lowest_hit.Statement.{statement}
-use Rattle.lowest_kept.proofs.vetted.lowest_hit.Tie as tie
+use Rattle.lowest_in_block.proofs.InBlock.{miss-more}
+use Rattle.lowest_in_block.proofs.vetted.lowest_hit.Statement.{statement}
+use Rattle.lowest_in_block.proofs.vetted.lowest_hit.Tie as tie
 
 abbrev Inv-loop : tie.InvT-loop
 Inv-loop live codes top j₀ j = (j ≤ 64) × ((x : ℕ) → x < j → hit live codes top 2 x ≡ false)

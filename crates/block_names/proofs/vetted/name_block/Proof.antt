@@ -1,12 +1,12 @@
--- `naming::vetted::name_block` meets its contract: row i is named for the lit lanes with code 1. Assumes nothing.
+-- `block_names::vetted::name_block` meets its contract: row i is named for the lit lanes with code 1. Assumes nothing.
 use mathlib.Core.Path.{sym, _∙_}
 use native.Mathlib.Omega.{arith}
 use borrow.Author.Needs.{needs}
 use Rattle.block_hits.specs.Hits.{cells, asked-below, row-below, ready-hits, ready-dark}
 use Rattle.lowest_kept.proofs.Rows.{kept-of}
-use Rattle.naming.proofs.Names.{names-some, names-none, beyond-some}
-use Rattle.naming.proofs.vetted.name_block.Statement.{statement}
-use Rattle.naming.proofs.vetted.name_block.Tie as tie
+use Rattle.block_names.proofs.Names.{names-some, names-none, beyond-some}
+use Rattle.block_names.proofs.vetted.name_block.Statement.{statement}
+use Rattle.block_names.proofs.vetted.name_block.Tie as tie
 
 slice-aggregate-waiting : tie.Need-slice-aggregate-waiting
 slice-aggregate-waiting c = search needs

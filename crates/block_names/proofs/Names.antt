@@ -1,8 +1,7 @@
--- Naming, over any relation: the kept rows, in rising order, name the rows that they beat, so that each dropped row has the
--- lowest. Assumes nothing.
+-- One block of naming, over any relation: a kept row is named for the rows that it beats and that have no name. Assumes nothing.
 use mathlib.Core.Path.{_≡_, refl, sym, _∙_}
 use mathlib.Core.Logic.{inl, inr, ⊎-elim}
-use mathlib.Core.Bool.{Bool, true, false, cond, not, _&&_}
+use mathlib.Core.Bool.{Bool, true, false, cond, _&&_}
 use mathlib.Core.List.{List}
 use Prim.Native.Nat.{ℕ, _+_, _<_, _≤_}
 use native.Mathlib.Omega.{arith}
@@ -18,9 +17,9 @@ use Rattle.lit_lanes.specs.Lit.{pending, hit}
 use Rattle.lane_marks.specs.Marks.{nameLane}
 use Rattle.live.specs.Alive.{Beyond}
 use Rattle.block_hits.specs.Hits.{Hits, Dark, in-block}
-use Rattle.lowest_kept.specs.Named.{named, Right, Named}
-use Rattle.naming.specs.Naming.{Naming}
-use Rattle.naming.proofs.Lowest.{named-next, named-dropped}
+use Rattle.lowest_kept.specs.Named.{Right}
+use Rattle.block_names.specs.Naming.{Naming}
+use Rattle.block_names.specs.Lowest.{named-next}
 
 -- ---- one lane
 
@@ -100,21 +99,3 @@ module _ (beats : Rel ℕ) (n i lo : ℕ) (gone by : List ℕ) (settled : Settle
       where
         same : (j : ℕ) → j < 64 → n ≤ lo + j → getD new (lo + j) 0 ≡ getD by (lo + j) 0
         same j l h = wrote .made j l ∙ name-lane by lo live codes top i j ∙ rw (hits .off 1 j l h)
-
--- ---- a row
-
-module _ (beats : Rel ℕ) (n i : ℕ) (by : List ℕ) where
-  -- Before its first block row i has named none.
-  pub naming-start : Named beats n i by → Naming beats n i 0 by
-  naming-start r = record { done = λ j l. absurd (omega arith); left = λ j _ l d. r .each j l d }
-
-  -- After its last block it has named all that it beats.
-  pub naming-end : (m : ℕ) → n ≤ m → Naming beats n i m by → Named beats n (i + 1) by
-  naming-end m l r = record { each = λ j h d. r .done j (omega arith) h d }
-
-  -- A row that is dropped names none.
-  pub named-gone : kept n beats i ≡ false → Named beats n i by → Named beats n (i + 1) by
-  named-gone k r =
-      record {
-        each = λ j h d. ⊎-elim (λ e. inl (e ∙ sym (named-dropped beats n i j k))) (λ f. inr f) (r .each j h d);
-      }

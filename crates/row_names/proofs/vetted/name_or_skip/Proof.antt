@@ -1,10 +1,10 @@
--- `naming::vetted::name_or_skip` meets its contract: a row that is gone is dropped, and names none. Assumes
+-- `row_names::vetted::name_or_skip` meets its contract: a row that is gone is dropped, and names none. Assumes
 -- nothing.
 use borrow.Author.Needs.{needs}
 use Rattle.lowest_kept.proofs.Rows.{dropped-of}
-use Rattle.naming.proofs.Names.{named-gone}
-use Rattle.naming.proofs.vetted.name_or_skip.Statement.{statement}
-use Rattle.naming.proofs.vetted.name_or_skip.Tie as tie
+use Rattle.row_names.proofs.Names.{named-gone}
+use Rattle.row_names.proofs.vetted.name_or_skip.Statement.{statement}
+use Rattle.row_names.proofs.vetted.name_or_skip.Tie as tie
 
 shared-slice-read-if1 : tie.Need-shared-slice-read-if1
 shared-slice-read-if1 c = search needs

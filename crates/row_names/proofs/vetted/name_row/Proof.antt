@@ -1,4 +1,4 @@
--- `naming::vetted::name_row` meets its contract: row i has named those rows before block b that it beats.
+-- `row_names::vetted::name_row` meets its contract: row i has named those rows before block b that it beats.
 -- Assumes nothing.
 use mathlib.Core.Path.{_≡_, refl}
 use Prim.Native.Nat.{_+_, _*_, _-_, _≤_}
@@ -8,10 +8,10 @@ use borrow.Author.Needs.{needs}
 use Rattle.model.specs.Term.{termAt}
 use Rattle.model.specs.Query.{beatsIn}
 use Rattle.live.specs.Alive.{Beyond}
-use Rattle.naming.specs.Naming.{Naming}
-use Rattle.naming.proofs.Names.{naming-start, naming-end}
-use Rattle.naming.proofs.vetted.name_row.Statement.{statement}
-use Rattle.naming.proofs.vetted.name_row.Tie as tie
+use Rattle.block_names.specs.Naming.{Naming}
+use Rattle.row_names.proofs.Names.{naming-start, naming-end}
+use Rattle.row_names.proofs.vetted.name_row.Statement.{statement}
+use Rattle.row_names.proofs.vetted.name_row.Tie as tie
 
 abbrev Inv-loop : tie.InvT-loop
 Inv-loop table numbers ends reach marks exits term group columns rows n stride ranks values keys i gone by₀ codes₀ b₀ by codes b =
