@@ -22,7 +22,8 @@ use Rattle.exits.specs.Known.{Known}
 use Rattle.exits.proofs.Known.{known-none, known-silent, known-more, known-stop, known-all, known-on}
 use Rattle.lanes.specs.Wrote.{Wrote}
 use Rattle.known.specs.Lanes.{startLane, bitsLane, Ended}
-use Rattle.blocks.specs.Blocks.{Coded, KnownLanes, RecordTold, AskedCoded}
+use Rattle.record_codes.specs.Ready.{Coded}
+use Rattle.blocks.specs.Blocks.{KnownLanes, RecordTold, AskedCoded}
 
 module _ {table : List ℕ} {term : ℕ} {exits : List ℕ} (e : Exits table term exits) {columns : ℕ} {rows : List ℤ} {n i b : ℕ}
     {live : List ℕ} where

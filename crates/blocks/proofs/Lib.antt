@@ -1,4 +1,2 @@
-pub mod Coded
-pub mod OfBase
-pub mod OfCompound
+-- Laws that the proofs share.
 pub mod Known

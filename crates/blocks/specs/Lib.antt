@@ -1,2 +1,2 @@
--- What is prepared once per query, and the codes of a row and a block.
+-- What is known of a block, and the codes of a row and a block.
 pub mod Blocks

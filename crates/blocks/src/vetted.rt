@@ -1,16 +1,14 @@
-// The codes of row i against the rows of block b under each record beneath the asked term, upward. A base record's come from
-// ranks and values, a compound's from its parts' codes and nothing else. No public calls: each asks what was prepared before.
-use base_lanes::vetted::base_codes;
-use compound_lanes::vetted::compound_lanes;
+// The codes of row i against the rows of block b under the asked term, from those under each record beneath it, upward. No public
+// calls: each asks what was prepared before.
 use known::vetted::all_known;
 use known::vetted::put_known;
 use known::vetted::start_known;
 use known::vetted::tell_lanes;
-use model::Record;
-use values::vetted::lookup::decoded;
+use record_codes::vetted::record_codes;
 ghost use Prim.Native.Nat.{_+_, _*_, _<_, _≤_};
 ghost use lib.ListN.{length};
-ghost use Rattle.blocks.specs.Blocks.{Ready, AtRecord, Coded, RecordTold, AskedCoded};
+ghost use Rattle.record_codes.specs.Ready.{Ready};
+ghost use Rattle.blocks.specs.Blocks.{RecordTold, AskedCoded};
 
 // The asked term's codes in the lanes that are lit, from what the records up to it tell.
 pub fn block_codes(
@@ -88,55 +86,4 @@ fn tell(m: u8, codes: &[u8], k: u8, term: u8, known: &mut [u8]) -> bool
 // Whether a block may well end at record k: at the left part of a PRIOR, or where some records are left.
 fn pays(m: u8, k: u8, term: u8) -> bool {
     (4 <= m) | ((k as usize) + 4 <= (term as usize))
-}
-
-// The codes of record k, from those of the records below.
-fn record_codes(
-    table: &[u8],
-    numbers: &[i32; 256],
-    ends: &[u8; 128],
-    reach: &[[bool; 32]],
-    marks: &[bool; 128],
-    exits: &[u8; 128],
-    term: u8,
-    columns: usize,
-    rows: &[i32],
-    n: usize,
-    stride: usize,
-    ranks: &[i32],
-    values: &[i32],
-    i: usize,
-    b: usize,
-    k: u8,
-    codes: &mut [u8],
-)
-    requires { ⌜ Ready (now table) (now numbers) (now ends) (now reach) (now marks) (now exits) term columns (now rows) n stride (now ranks) (now values) × AtRecord (now marks) term n i b k × (8192 ≤ length (now codes)) × Coded (now table) (now marks) columns (now rows) n i b k (now codes) ⌝ }
-    ensures { λ _. ⌜ Coded (now (table .entry)) (now (marks .entry)) columns (now (rows .entry)) n i b (k + 1) (now (codes .exit)) ⌝ }
-{
-    match decoded(table, numbers, k) {
-        Record::Value(_) => {}
-        Record::Base(column, t) => {
-            let at = k as usize;
-            let c = column as usize;
-            let x = ranks[i / 64 * stride + at * 64 + i % 64];
-            let v = values[i / 64 * 512 + c * 64 + i % 64];
-            let e = ends[at];
-            base_codes(
-                table,
-                reach,
-                k,
-                e,
-                t,
-                ranks,
-                b * stride + at * 64,
-                x,
-                values,
-                b * 512 + c * 64,
-                v,
-                codes,
-            );
-        }
-        Record::Compound(c) => compound_lanes(c, codes, k, 64),
-        Record::Unknown => {}
-    }
 }

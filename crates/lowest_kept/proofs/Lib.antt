@@ -1,2 +1,3 @@
+-- Laws that the proofs share.
 pub mod Rows
-pub mod InBlock
+pub mod ByBlocks

@@ -2,17 +2,14 @@
 -- better".
 use mathlib.Core.Path.{_≡_}
 use mathlib.Core.Logic.{_⊎_}
-use mathlib.Core.Bool.{Bool, true, false, cond, _&&_}
+use mathlib.Core.Bool.{false, cond}
 use mathlib.Core.List.{List}
 use Prim.Native.Nat.{ℕ, _+_, _≤_, _<_}
 use lib.ListN.{getD}
 use Rattle.model.specs.Search.{anyBelow, findBelow}
 use Rattle.model.specs.Query.{kept}
 use Rattle.laws.specs.Order.{Rel}
-
--- Row j is kept and better than row i.
-unfoldable pub keptBetter : Rel ℕ → ℕ → ℕ → ℕ → Bool
-keptBetter beats n i j = kept n beats j && beats j i
+use Rattle.lowest_in_block.specs.LowestIn.{keptBetter}
 
 -- The lowest of the rows below m that is kept and better than row i, or 1024.
 unfoldable pub named : Rel ℕ → ℕ → ℕ → ℕ → ℕ
@@ -30,9 +27,3 @@ pub record Named (beats : Rel ℕ) (n m : ℕ) (by : List ℕ) : Type 0 where
 pub record NamedTo (beats : Rel ℕ) (n m : ℕ) (by : List ℕ) : Type 0 where
   pub done : (i : ℕ) → i < m → i < n → kept n beats i ≡ false → Right beats n n i (getD by i 0)
   pub left : (i : ℕ) → m ≤ i → i < n → kept n beats i ≡ false → Right beats n 0 i (getD by i 0)
-
--- Of the 64 rows from row lo on, the one in lane r is the lowest that is kept and better than row i; none is where r is 64.
-pub record LowestIn (beats : Rel ℕ) (n i lo r : ℕ) : Type 0 where
-  pub row : r < 64 → lo + r < n
-  pub better : r < 64 → keptBetter beats n i (lo + r) ≡ true
-  pub least : (j : ℕ) → j < r → j < 64 → lo + j < n → keptBetter beats n i (lo + j) ≡ false

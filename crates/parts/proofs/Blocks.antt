@@ -12,7 +12,7 @@ use Rattle.exit_parts.specs.Exits.{Exits}
 use Rattle.cells.specs.Values.{Room, Valued}
 use Rattle.beneath.specs.Beneath.{Marked}
 use Rattle.ranks.specs.Ranked.{Ranked}
-use Rattle.blocks.specs.Blocks.{Ready}
+use Rattle.record_codes.specs.Ready.{Ready}
 use Rattle.selection.specs.Selected.{AskedRows, StrideFor}
 use Rattle.selection.specs.Ranks.{room-for}
 

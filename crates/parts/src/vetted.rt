@@ -28,7 +28,7 @@ ghost use Rattle.elimination.specs.Firsts.{Firsts};
 ghost use Rattle.keys.specs.Keys.{Keyed};
 ghost use Rattle.cells.specs.Values.{Room};
 ghost use Rattle.live.specs.Alive.{Above};
-ghost use Rattle.blocks.specs.Blocks.{Ready};
+ghost use Rattle.record_codes.specs.Ready.{Ready};
 ghost use Rattle.selection.specs.Selected.{AskedRows, StrideFor, Selected};
 
 // Writes the entries. Returns how many rows are kept. A block's ranks are 64 for each record up to the term. Few rows and few

@@ -9,8 +9,9 @@ use lib.ListN.{length}
 use borrow.Author.Needs.{needs}
 use Rattle.model.specs.Record.{recordAt, isTerm}
 use Rattle.exit_parts.specs.Exits.{maskAt}
-use Rattle.blocks.specs.Blocks.{Coded, KnownLanes}
-use Rattle.blocks.proofs.Coded.{coded-none, coded-unmarked, coded-next, term-below, first-term, next-term, next-is}
+use Rattle.record_codes.specs.Ready.{Coded}
+use Rattle.record_codes.specs.Coded.{coded-none, coded-unmarked, coded-next, term-below, first-term, next-term, next-is}
+use Rattle.blocks.specs.Blocks.{KnownLanes}
 use Rattle.blocks.proofs.Known.{lanes-none, lanes-silent, lanes-told, lanes-next, asked-ended, asked-all}
 use Rattle.blocks.proofs.vetted.block_codes.Statement.{statement}
 use Rattle.blocks.proofs.vetted.block_codes.Tie as tie

@@ -6,7 +6,7 @@ use lib.ListN.{length}
 use borrow.Author.Needs.{needs}
 use Rattle.model.specs.Term.{termAt}
 use Rattle.model.specs.Query.{beatsIn}
-use Rattle.lowest_kept.proofs.InBlock.{NoneBelow, none-start, none-more, lowest-here, lowest-none}
+use Rattle.lowest_kept.proofs.ByBlocks.{NoneBelow, none-start, none-more, lowest-here, lowest-none}
 use Rattle.lowest_kept.proofs.vetted.lowest.Statement.{statement}
 use Rattle.lowest_kept.proofs.vetted.lowest.Tie as tie
 

@@ -11,7 +11,7 @@ use Rattle.elimination.specs.Elimination.{Rounds}
 use Rattle.elimination.specs.Firsts.{Firsts}
 use Rattle.elimination.specs.Rounds.{settled-of}
 use Rattle.live.specs.Alive.{Above}
-use Rattle.rounds.proofs.Hits.{ready-strict}
+use Rattle.block_hits.specs.Hits.{ready-strict}
 use Rattle.rounds.proofs.vetted.meetings.eliminate.Statement.{statement}
 use Rattle.rounds.proofs.vetted.meetings.eliminate.Tie as tie
 

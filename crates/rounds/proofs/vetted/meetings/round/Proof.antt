@@ -10,7 +10,7 @@ use Rattle.elimination.specs.Elimination.{Turn}
 use Rattle.elimination.specs.Firsts.{Firsts}
 use Rattle.elimination.specs.Rounds.{turn-start, turn-end, turn-lost, met-turn}
 use Rattle.live.specs.Alive.{Above}
-use Rattle.rounds.proofs.Meets.{above-set, firsts-set}
+use Rattle.block_hits.specs.Meets.{above-set, firsts-set}
 use Rattle.rounds.proofs.vetted.meetings.round.Statement.{statement}
 use Rattle.rounds.proofs.vetted.meetings.round.Tie as tie
 

@@ -1,0 +1,3 @@
+-- What the lit lanes of a block and their codes say, and what a row that meets the block leaves.
+pub mod Hits
+pub mod Meets

@@ -1,0 +1,2 @@
+// A row meets the rows of a block.
+pub mod vetted;

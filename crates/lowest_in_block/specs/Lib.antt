@@ -1,0 +1,2 @@
+-- Which row of a block is the lowest kept one that beats a row.
+pub mod LowestIn

@@ -1,0 +1,2 @@
+// The lowest kept row of a block that beats a row.
+pub mod vetted;

@@ -1,2 +1,0 @@
--- Which rows have been named.
-pub mod Naming

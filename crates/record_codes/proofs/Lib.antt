@@ -1,0 +1,3 @@
+-- Laws that the proofs share.
+pub mod OfBase
+pub mod OfCompound

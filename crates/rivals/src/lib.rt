@@ -1,0 +1,2 @@
+// Which rows of a block a row meets.
+pub mod vetted;
