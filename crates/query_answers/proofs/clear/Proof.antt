@@ -1,11 +1,11 @@
--- `query_cases::answers::clear` is safe and ends: each turn writes one entry. Assumes nothing.
+-- `query_answers::clear` is safe and ends: each turn writes one entry. Assumes nothing.
 use Prim.Native.Nat.{_≤_, _-_}
 use mathlib.Core.Path.{_≡_}
 use lib.ListN.{length, length-set}
 use native.Mathlib.Omega.{arith}
 use borrow.Author.Needs.{needs}
-use Rattle.query_cases.proofs.answers.clear.Statement.{statement}
-use Rattle.query_cases.proofs.answers.clear.Tie as tie
+use Rattle.query_answers.proofs.clear.Statement.{statement}
+use Rattle.query_answers.proofs.clear.Tie as tie
 
 abbrev Inv-loop : tie.InvT-loop
 Inv-loop buffer₀ i₀ buffer i = (i ≤ length buffer) × (length buffer ≡ length buffer₀)

@@ -1,9 +1,9 @@
--- `query_cases::after` is safe and ends: each turn goes on in the text. Assumes nothing.
+-- `query_lines::head::after` is safe and ends: each turn goes on in the text. Assumes nothing.
 use Prim.Native.Nat.{_≤_, _-_}
 use lib.ListN.{length}
 use borrow.Author.Needs.{needs}
-use Rattle.query_cases.proofs.after.Statement.{statement}
-use Rattle.query_cases.proofs.after.Tie as tie
+use Rattle.query_lines.proofs.head.after.Statement.{statement}
+use Rattle.query_lines.proofs.head.after.Tie as tie
 
 abbrev Inv-loop : tie.InvT-loop
 Inv-loop text at i₀ i = i₀ ≤ i

@@ -1,10 +1,10 @@
--- `query_cases::rows::repeated` is safe and ends: each turn is one time. Assumes nothing.
+-- `query_lines::rows::repeated` is safe and ends: each turn is one time. Assumes nothing.
 use Prim.Native.Nat.{_≤_, _-_}
 use mathlib.Core.Path.{_≡_}
 use lib.ListN.{length}
 use borrow.Author.Needs.{needs}
-use Rattle.query_cases.proofs.rows.repeated.Statement.{statement}
-use Rattle.query_cases.proofs.rows.repeated.Tie as tie
+use Rattle.query_lines.proofs.rows.repeated.Statement.{statement}
+use Rattle.query_lines.proofs.rows.repeated.Tie as tie
 
 abbrev Inv-loop : tie.InvT-loop
 Inv-loop cells₀ from count numbers₀ n end₀ time₀ cells numbers end time = (time ≤ count) × (length numbers ≡ length numbers₀)

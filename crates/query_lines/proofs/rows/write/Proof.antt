@@ -1,8 +1,8 @@
--- `query_cases::rows::write` is safe and ends: each turn writes one cell. Assumes nothing.
+-- `query_lines::rows::write` is safe and ends: each turn writes one cell. Assumes nothing.
 use Prim.Native.Nat.{_≤_, _-_}
 use borrow.Author.Needs.{needs}
-use Rattle.query_cases.proofs.rows.write.Statement.{statement}
-use Rattle.query_cases.proofs.rows.write.Tie as tie
+use Rattle.query_lines.proofs.rows.write.Statement.{statement}
+use Rattle.query_lines.proofs.rows.write.Tie as tie
 
 abbrev Inv-loop : tie.InvT-loop
 Inv-loop cells₀ from time i₀ k₀ cells i k = k ≤ 16

@@ -1,8 +1,8 @@
--- `query_cases::option` is safe and ends: each turn goes on in the head. Assumes nothing.
+-- `query_lines::head::option` is safe and ends: each turn goes on in the head. Assumes nothing.
 use Prim.Native.Nat.{_≤_, _-_}
 use borrow.Author.Needs.{needs}
-use Rattle.query_cases.proofs.option.Statement.{statement}
-use Rattle.query_cases.proofs.option.Tie as tie
+use Rattle.query_lines.proofs.head.option.Statement.{statement}
+use Rattle.query_lines.proofs.head.option.Tie as tie
 
 abbrev Inv-loop : tie.InvT-loop
 Inv-loop asked letter other i₀ i = i ≤ 79

@@ -1,9 +1,9 @@
--- `query_cases::answers::entries` is safe and ends: each turn says one run. Assumes nothing.
+-- `query_answers::entries` is safe and ends: each turn says one run. Assumes nothing.
 use Prim.Native.Nat.{_≤_, _-_}
 use lib.ListN.{length}
 use borrow.Author.Needs.{needs}
-use Rattle.query_cases.proofs.answers.entries.Statement.{statement}
-use Rattle.query_cases.proofs.answers.entries.Tie as tie
+use Rattle.query_answers.proofs.entries.Statement.{statement}
+use Rattle.query_answers.proofs.entries.Tie as tie
 
 abbrev Inv-loop : tie.InvT-loop
 Inv-loop buffer i₀ i = i₀ ≤ i

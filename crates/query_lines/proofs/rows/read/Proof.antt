@@ -1,10 +1,10 @@
--- `query_cases::rows::read` is safe and ends: each turn takes one stretch. Assumes nothing.
+-- `query_lines::rows::read` is safe and ends: each turn takes one stretch. Assumes nothing.
 use Prim.Native.Nat.{_≤_, _-_}
 use mathlib.Core.Path.{_≡_}
 use lib.ListN.{length}
 use borrow.Author.Needs.{needs}
-use Rattle.query_cases.proofs.rows.read.Statement.{statement}
-use Rattle.query_cases.proofs.rows.read.Tie as tie
+use Rattle.query_lines.proofs.rows.read.Statement.{statement}
+use Rattle.query_lines.proofs.rows.read.Tie as tie
 
 abbrev Inv-loop : tie.InvT-loop
 Inv-loop cells₀ numbers₀ n₀ i₀ cells numbers n i = (i ≤ 2048) × (length numbers ≡ length numbers₀)

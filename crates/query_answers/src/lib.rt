@@ -15,8 +15,30 @@ pub fn clear(buffer: &mut [u16]) {
     }
 }
 
+// Whether the answer of that turn is another one. Says both if so.
+pub fn apart(
+    reply: QueryReply,
+    known: &[u16],
+    turn: u64,
+    given: QueryReply,
+    other: &[u16],
+) -> bool {
+    if same(reply, known, given, other) {
+        return false;
+    }
+    answer(reply, known);
+    say::numbered(b", APART in group :", 0, turn / 2);
+    if turn % 2 == 1 {
+        say::text(b" by parts ");
+    } else {
+        say::text(b" directly ");
+    }
+    answer(given, other);
+    true
+}
+
 // Whether two answers are the same, reply and buffer.
-pub fn same(a: QueryReply, x: &[u16], b: QueryReply, y: &[u16]) -> bool {
+fn same(a: QueryReply, x: &[u16], b: QueryReply, y: &[u16]) -> bool {
     (number(a) == number(b)) & same_entries(x, y)
 }
 

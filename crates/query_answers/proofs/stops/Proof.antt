@@ -1,9 +1,9 @@
--- `query_cases::answers::stops` is safe and ends: each turn goes on in the buffer. Assumes nothing.
+-- `query_answers::stops` is safe and ends: each turn goes on in the buffer. Assumes nothing.
 use Prim.Native.Nat.{_≤_, _-_}
 use lib.ListN.{length}
 use borrow.Author.Needs.{needs}
-use Rattle.query_cases.proofs.answers.stops.Statement.{statement}
-use Rattle.query_cases.proofs.answers.stops.Tie as tie
+use Rattle.query_answers.proofs.stops.Statement.{statement}
+use Rattle.query_answers.proofs.stops.Tie as tie
 
 abbrev Inv-loop : tie.InvT-loop
 Inv-loop buffer i step j₀ next₀ j next = i ≤ j

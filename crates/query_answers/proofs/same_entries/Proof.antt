@@ -1,9 +1,9 @@
--- `query_cases::answers::same_entries` is safe and ends: each turn goes on in the entries. Assumes nothing.
+-- `query_answers::same_entries` is safe and ends: each turn goes on in the entries. Assumes nothing.
 use Prim.Native.Nat.{_≤_, _-_}
 use lib.ListN.{length}
 use borrow.Author.Needs.{needs}
-use Rattle.query_cases.proofs.answers.same_entries.Statement.{statement}
-use Rattle.query_cases.proofs.answers.same_entries.Tie as tie
+use Rattle.query_answers.proofs.same_entries.Statement.{statement}
+use Rattle.query_answers.proofs.same_entries.Tie as tie
 
 abbrev Inv-loop : tie.InvT-loop
 Inv-loop x y i₀ i = i ≤ length x
