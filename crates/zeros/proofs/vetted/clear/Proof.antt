@@ -1,4 +1,4 @@
--- `pick_text::text::clear` meets its contract: zeros stand from `from` up to i. Assumes nothing.
+-- `zeros::vetted::clear` meets its contract: zeros stand from `from` up to i. Assumes nothing.
 use mathlib.Core.Path.{_≡_, refl, sym, _∙_}
 use mathlib.Core.List.{_++_}
 use Prim.Native.Nat.{_-_, _≤_}
@@ -7,9 +7,9 @@ use lib.ListN.{length, take, replicate, length-set}
 use lib.Seq.{take-all}
 use denote.Ref.{now}
 use borrow.Author.Needs.{needs}
-use Rattle.pick_text.proofs.Cleared.{zero-none, zero-more}
-use Rattle.pick_text.proofs.text.clear.Statement.{statement}
-use Rattle.pick_text.proofs.text.clear.Tie as tie
+use Rattle.zeros.proofs.Zeros.{zero-none, zero-more}
+use Rattle.zeros.proofs.vetted.clear.Statement.{statement}
+use Rattle.zeros.proofs.vetted.clear.Tie as tie
 
 abbrev Inv-loop : tie.InvT-loop
 Inv-loop out₀ from i₀ out i =

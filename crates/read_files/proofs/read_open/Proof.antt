@@ -1,11 +1,11 @@
--- `pick_files::read_open` meets its contract. Assumes nothing.
+-- `read_files::read_open` meets its contract. Assumes nothing.
 use mathlib.Core.Path.{_≡_, sym}
 use Prim.Native.Nat.{_-_, _≤_}
 use lib.ListN.{length}
 use lib.Seq.{length-take-le}
 use borrow.Author.Needs.{needs}
-use Rattle.pick_files.proofs.read_open.Statement.{statement}
-use Rattle.pick_files.proofs.read_open.Tie as tie
+use Rattle.read_files.proofs.read_open.Statement.{statement}
+use Rattle.read_files.proofs.read_open.Tie as tie
 
 abbrev Inv-loop : tie.InvT-loop
 Inv-loop fd path buf₀ n₀ buf n = (n ≤ length buf) × (length buf ≡ length buf₀)
