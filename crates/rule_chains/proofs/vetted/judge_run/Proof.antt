@@ -1,4 +1,4 @@
--- `judging::vetted::judge_run` meets its contract. Assumes nothing.
+-- `rule_chains::vetted::judge_run` meets its contract. Assumes nothing.
 use Prim.Native.Nat.{_-_, _+_, _≤_}
 use native.Mathlib.Omega.{arith}
 use denote.Ref.{now}
@@ -7,10 +7,10 @@ use borrow.Author.Needs.{needs}
 use Rattle.model.specs.Record.{nearestTerm}
 use Rattle.model.specs.Replies.{refusals, numbered, refusal}
 use Rattle.laws.specs.Runs.{nearest-bound}
-use Rattle.judging.specs.Judging.{judgeRun}
-use Rattle.judging.proofs.Judging.{values, run, crowd-is, clash-is, loop-is}
-use Rattle.judging.proofs.vetted.judge_run.Statement.{statement}
-use Rattle.judging.proofs.vetted.judge_run.Tie as tie
+use Rattle.judging_steps.specs.Judging.{judgeRun}
+use Rattle.rule_chains.proofs.Runs.{values, run, crowd-is, clash-is, loop-is}
+use Rattle.rule_chains.proofs.vetted.judge_run.Statement.{statement}
+use Rattle.rule_chains.proofs.vetted.judge_run.Tie as tie
 
 sub-if1 : tie.Need-sub-if1
 sub-if1 c =

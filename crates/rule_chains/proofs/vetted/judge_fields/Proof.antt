@@ -1,9 +1,9 @@
--- `judging::vetted::judge_fields` meets its contract. Assumes nothing.
+-- `rule_chains::vetted::judge_fields` meets its contract. Assumes nothing.
 use borrow.Author.Needs.{needs}
 use Rattle.model.specs.Replies.{refusals, numbered, refusal}
-use Rattle.judging.specs.Judging.{judgeFields}
-use Rattle.judging.proofs.vetted.judge_fields.Statement.{statement}
-use Rattle.judging.proofs.vetted.judge_fields.Tie as tie
+use Rattle.judging_steps.specs.Judging.{judgeFields}
+use Rattle.rule_chains.proofs.vetted.judge_fields.Statement.{statement}
+use Rattle.rule_chains.proofs.vetted.judge_fields.Tie as tie
 
 record-at-requires : tie.Need-record-at-requires
 record-at-requires c κs = search needs

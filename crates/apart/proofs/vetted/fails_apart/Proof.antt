@@ -1,13 +1,13 @@
--- `judging::vetted::fails_apart` meets its contract. Assumes nothing.
+-- `apart::vetted::fails_apart` meets its contract. Assumes nothing.
 use mathlib.Core.Path.{_≡_, _∙_, sym}
 use native.Mathlib.Omega.{arith}
 use denote.Ref.{now}
 use borrow.Author.Tests.{ne-eqb}
 use borrow.Author.Needs.{needs}
 use Rattle.model.specs.Record.{kindAt, pAt, qAt}
-use Rattle.judging.proofs.Judging.{narrow, both-below, apart-is, apart-none}
-use Rattle.judging.proofs.vetted.fails_apart.Statement.{statement}
-use Rattle.judging.proofs.vetted.fails_apart.Tie as tie
+use Rattle.apart.proofs.Apart.{narrow, both-below, apart-is, apart-none}
+use Rattle.apart.proofs.vetted.fails_apart.Statement.{statement}
+use Rattle.apart.proofs.vetted.fails_apart.Tie as tie
 
 kind-at-requires : tie.Need-kind-at-requires
 kind-at-requires c κs = search needs

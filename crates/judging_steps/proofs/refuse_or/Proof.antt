@@ -1,6 +1,6 @@
--- `judging::vetted::refuse_or` meets its contract. Assumes nothing.
-use Rattle.judging.proofs.vetted.refuse_or.Statement.{statement}
-use Rattle.judging.proofs.vetted.refuse_or.Tie as tie
+-- `judging_steps::refuse_or` meets its contract. Assumes nothing.
+use Rattle.judging_steps.proofs.refuse_or.Statement.{statement}
+use Rattle.judging_steps.proofs.refuse_or.Tie as tie
 
 returns : tie.Need-returns
 returns c = rw (c .if1 .taken)
