@@ -2,8 +2,8 @@
 mod text;
 
 use lines::MOST_TEXT;
-use text::clear;
 use text::put_text;
+use zeros::vetted::clear;
 ghost use mathlib.Core.Path.{_≡_};
 ghost use mathlib.Core.List.{List, _++_};
 ghost use Prim.Native.Nat.{ℕ, _-_, _≤_};

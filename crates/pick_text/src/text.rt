@@ -9,9 +9,6 @@ use model::Summary;
 use row_file::vetted::fails_file;
 use table::check;
 ghost use mathlib.Core.Path.{_≡_};
-ghost use mathlib.Core.List.{_++_};
-ghost use Prim.Native.Nat.{_-_, _≤_};
-ghost use lib.ListN.{length, take, replicate};
 ghost use Rattle.model.specs.declared.{CheckReply.CheckReply as Checked};
 ghost use Rattle.model.specs.Check.{checkReply};
 ghost use Rattle.model.specs.Pick.{pickText};
@@ -37,16 +34,4 @@ fn put_accepted(prefs: &[u8], rows: &[u8], s: Summary, out: &mut [u8; MOST_TEXT]
         return put_refused(Refusal::Rows, out);
     }
     put_answered(prefs, rows, s, out)
-}
-
-// Writes zeros from `from` on.
-pub fn clear(out: &mut [u8], from: usize)
-    requires { ⌜ from ≤ length (now out) ⌝ }
-    ensures { λ _. ⌜ now (out .exit) ≡ take from (now (out .entry)) ++ replicate (length (now (out .entry)) - from) 0 ⌝ }
-{
-    let mut i = from;
-    while i < out.len() {
-        out[i] = 0;
-        i += 1;
-    }
 }

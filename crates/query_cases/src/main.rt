@@ -2,15 +2,17 @@
 // hand from document 01. The head of a case is the column count and the term's record number, and, where they are not
 // what is said here, the group byte (`group`, else 0; several with `to`, which must all give one answer), how many entries
 // the buffer has (`buffer`, else two more than rows) and the table's length in bytes (`table`, else that of the records).
-// The rows follow (rows.rt), then the records. An answer is the kept count or the refusal, and the whole buffer.
-mod answers;
-mod rows;
-
-use answers::answer;
-use answers::same;
+// The rows follow (`query_lines`), then the records. An answer is the kept count or the refusal, and the whole buffer.
 use case_lines::read;
 use case_lines::say;
 use model::QueryReply;
+use query_answers::answer;
+use query_answers::apart;
+use query_answers::clear;
+use query_lines::head::after;
+use query_lines::head::option;
+use query_lines::head::two_more;
+use query_lines::rows;
 
 fn main() {
     let mut text = buffer();
@@ -51,22 +53,6 @@ fn case(text: &[u8], at: usize) -> usize {
     end
 }
 
-// The place after the next colon, or that of the line's end.
-fn after(text: &[u8], at: usize) -> usize {
-    let mut i = at;
-    while i < text.len() {
-        let b = text[i];
-        if b == b'\n' {
-            return i;
-        }
-        i += 1;
-        if b == b':' {
-            return i;
-        }
-    }
-    i
-}
-
 fn run(asked: &mut [u64; 4096], records: &[u64; 4096]) {
     let mut bytes = [0u8; 1560];
     read::table(records, &mut bytes);
@@ -80,18 +66,6 @@ fn run(asked: &mut [u64; 4096], records: &[u64; 4096]) {
     }
 }
 
-// The number after the head's name with that last letter, or the other where there is no such name.
-fn option(asked: &[u64; 4096], letter: u8, other: u64) -> u64 {
-    let mut i = 67usize;
-    while i < 79 {
-        if asked[i] == 4 * (letter as u64) {
-            return read::number(asked, i + 1);
-        }
-        i += 1;
-    }
-    other
-}
-
 fn with_room(asked: &[u64; 4096], table: &[u8], rows: &[i32]) {
     let columns = read::number(asked, 65) as usize;
     let n = option(asked, b'r', two_more(rows.len(), columns)) as usize;
@@ -100,13 +74,6 @@ fn with_room(asked: &[u64; 4096], table: &[u8], rows: &[i32]) {
     if n <= 1200 {
         every_group(asked, table, rows, &mut known[0..n], &mut other[0..n]);
     }
-}
-
-fn two_more(numbers: usize, columns: usize) -> u64 {
-    if columns == 0 {
-        return 2;
-    }
-    ((numbers / columns) % 65536) as u64 + 2
 }
 
 // Says the one answer that both engines give for every group byte, or two that are apart.
@@ -144,25 +111,9 @@ fn query_by(
     group: u8,
     buffer: &mut [u16],
 ) -> QueryReply {
-    answers::clear(buffer);
+    clear(buffer);
     if engine == 1 {
         return query::query_by_parts(table, columns, rows, term, group, buffer);
     }
     query::query_direct(table, columns, rows, term, group, buffer)
-}
-
-// Whether the answer of that turn is another one. Says both if so.
-fn apart(reply: QueryReply, known: &[u16], turn: u64, given: QueryReply, other: &[u16]) -> bool {
-    if same(reply, known, given, other) {
-        return false;
-    }
-    answer(reply, known);
-    say::numbered(b", APART in group :", 0, turn / 2);
-    if turn % 2 == 1 {
-        say::text(b" by parts ");
-    } else {
-        say::text(b" directly ");
-    }
-    answer(given, other);
-    true
 }

@@ -22,7 +22,7 @@ use Rattle.laws.specs.Terms.{terms-below}
 use Rattle.columns.specs.Columns.{maskBelow}
 use Rattle.columns.proofs.MaskLoop.{masks-columns}
 use Rattle.passing.specs.Passing.{freeAt, Carried}
-use Rattle.judging.proofs.Judging.{column-more}
+use Rattle.judging_steps.proofs.Fielded.{column-more}
 use Rattle.table.specs.Verdict.{looseIn, recordsVerdict, Summed}
 
 pub width-ok : (columns : ℕ) → failsWidth columns ≡ false → columns ≤ 8

@@ -2,7 +2,7 @@
 use mathlib.Core.Path.{_∙_, sym}
 use denote.Ref.{now}
 use borrow.Author.Needs.{needs}
-use Rattle.judging.proofs.Judging.{judge-after}
+use Rattle.judging_steps.proofs.Steps.{judge-after}
 use Rattle.judging.proofs.vetted.judge_record.Statement.{statement}
 use Rattle.judging.proofs.vetted.judge_record.Tie as tie
 

@@ -8,7 +8,7 @@ use borrow.Author.Needs.{needs}
 use Rattle.model.specs.declared.Verdict.{Verdict}
 use Rattle.model.specs.Record.{kindAt}
 use Rattle.model.specs.Replies.{refusals, numbered, refusal}
-use Rattle.judging.specs.Judging.{judgeRun, judgeShape}
+use Rattle.judging_steps.specs.Judging.{judgeRun, judgeShape}
 use Rattle.judging.proofs.Judging.{run-none, shape-bounds, shape-apart, shape-none}
 use Rattle.judging.proofs.vetted.judge_rest.Statement.{statement}
 use Rattle.judging.proofs.vetted.judge_rest.Tie as tie
