@@ -1,11 +1,11 @@
--- `parts::vetted::ranked` meets its contract. Assumes nothing.
+-- `block_entries::vetted::ranked` meets its contract. Assumes nothing.
 use Rattle.beneath.specs.Beneath.{parts-low}
 use Rattle.selection.specs.Taken.{few-columns, term-below}
 use Rattle.selection.specs.Ranks.{same-room}
-use Rattle.parts.proofs.Blocks.{ready}
+use Rattle.block_entries.proofs.Blocks.{ready}
 use borrow.Author.Needs.{needs}
-use Rattle.parts.proofs.vetted.ranked.Statement.{statement}
-use Rattle.parts.proofs.vetted.ranked.Tie as tie
+use Rattle.block_entries.proofs.vetted.ranked.Statement.{statement}
+use Rattle.block_entries.proofs.vetted.ranked.Tie as tie
 
 numbers-requires : tie.Need-numbers-requires
 numbers-requires c κs = search needs

@@ -1,11 +1,11 @@
--- `parts::vetted::by_blocks` meets its contract. Assumes nothing.
+-- `block_entries::vetted::by_blocks` meets its contract. Assumes nothing.
 use mathlib.Core.Path.{refl}
 use native.Mathlib.Omega.{arith}
 use borrow.Author.Needs.{needs}
 use Rattle.entries.specs.Answers.{no-rounds, rest-gone, no-firsts}
 use Rattle.selection.specs.Taken.{few-columns}
-use Rattle.parts.proofs.vetted.by_blocks.Statement.{statement}
-use Rattle.parts.proofs.vetted.by_blocks.Tie as tie
+use Rattle.block_entries.proofs.vetted.by_blocks.Statement.{statement}
+use Rattle.block_entries.proofs.vetted.by_blocks.Tie as tie
 
 slice-aggregate-fill-keys : tie.Need-slice-aggregate-fill-keys
 slice-aggregate-fill-keys c = search needs

@@ -16,7 +16,7 @@ use Rattle.exit_parts.specs.Exits.{Exits}
 use Rattle.ops.specs.Ops.{Ops}
 use Rattle.pair_records.specs.Pairs.{Comparable}
 use Rattle.selection.specs.Selected.{AskedRows, StrideFor}
-use Rattle.direct.specs.Rooms.{Cleared}
+use Rattle.pair_entries.specs.Rooms.{Cleared}
 
 -- A query's rows can be compared.
 pub comparable : {table : List ℕ} {columns term : ℕ} {rows : List ℤ} {n stride : ℕ} {ops ends : List ℕ}

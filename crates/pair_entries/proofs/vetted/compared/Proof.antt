@@ -1,11 +1,11 @@
--- `direct::vetted::compared` meets its contract. Assumes nothing.
+-- `pair_entries::vetted::compared` meets its contract. Assumes nothing.
 use Rattle.beneath.specs.Beneath.{parts-low}
 use Rattle.selection.specs.Taken.{term-below}
 use Rattle.selection.specs.Ranks.{same-room}
-use Rattle.direct.proofs.Pairs.{comparable}
+use Rattle.pair_entries.proofs.Pairs.{comparable}
 use borrow.Author.Needs.{needs}
-use Rattle.direct.proofs.vetted.compared.Statement.{statement}
-use Rattle.direct.proofs.vetted.compared.Tie as tie
+use Rattle.pair_entries.proofs.vetted.compared.Statement.{statement}
+use Rattle.pair_entries.proofs.vetted.compared.Tie as tie
 
 numbers-requires : tie.Need-numbers-requires
 numbers-requires c κs = search needs

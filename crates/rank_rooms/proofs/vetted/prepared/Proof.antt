@@ -1,9 +1,9 @@
--- `parts::vetted::prepared` meets its contract. Assumes nothing.
+-- `rank_rooms::vetted::prepared` meets its contract. Assumes nothing.
 use mathlib.Core.Path.{sym, _∙_}
 use Rattle.values.specs.Edges.{no-edges}
 use borrow.Author.Needs.{needs}
-use Rattle.parts.proofs.vetted.prepared.Statement.{statement}
-use Rattle.parts.proofs.vetted.prepared.Tie as tie
+use Rattle.rank_rooms.proofs.vetted.prepared.Statement.{statement}
+use Rattle.rank_rooms.proofs.vetted.prepared.Tie as tie
 
 run-ends-requires : tie.Need-run-ends-requires
 run-ends-requires c κs = search needs

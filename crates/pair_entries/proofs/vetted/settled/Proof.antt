@@ -1,13 +1,13 @@
--- `direct::vetted::settled` meets its contract. Assumes nothing.
+-- `pair_entries::vetted::settled` meets its contract. Assumes nothing.
 use mathlib.Core.Path.{refl, _∙_}
 use native.Mathlib.Omega.{arith}
 use Rattle.elimination.specs.Rounds.{rounds-start, count-kept}
 use Rattle.elimination.specs.Beaten.{beaten-start}
 use Rattle.kept_list.specs.Listing.{kept-rows}
-use Rattle.direct.proofs.Pairs.{count-small}
+use Rattle.pair_entries.proofs.Pairs.{count-small}
 use borrow.Author.Needs.{needs}
-use Rattle.direct.proofs.vetted.settled.Statement.{statement}
-use Rattle.direct.proofs.vetted.settled.Tie as tie
+use Rattle.pair_entries.proofs.vetted.settled.Statement.{statement}
+use Rattle.pair_entries.proofs.vetted.settled.Tie as tie
 
 eliminate-requires : tie.Need-eliminate-requires
 eliminate-requires c κs =

@@ -1,12 +1,12 @@
--- `parts::vetted::named` meets its contract. Assumes nothing.
+-- `block_entries::vetted::named` meets its contract. Assumes nothing.
 use mathlib.Core.Path.{_∙_}
 use denote.Ref.{now}
 use borrow.Author.Needs.{needs}
 use Rattle.elimination.specs.Rounds.{count-kept}
 use Rattle.entries.specs.Answers.{known-names, rest-named, entries-answers}
 use Rattle.selection.specs.Taken.{strict-rows}
-use Rattle.parts.proofs.vetted.named.Statement.{statement}
-use Rattle.parts.proofs.vetted.named.Tie as tie
+use Rattle.block_entries.proofs.vetted.named.Statement.{statement}
+use Rattle.block_entries.proofs.vetted.named.Tie as tie
 
 slice-aggregate-first-names : tie.Need-slice-aggregate-first-names
 slice-aggregate-first-names c = search needs
