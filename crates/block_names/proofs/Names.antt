@@ -17,7 +17,7 @@ use Rattle.lit_lanes.specs.Lit.{pending, hit}
 use Rattle.lane_marks.specs.Marks.{nameLane}
 use Rattle.live.specs.Alive.{Beyond}
 use Rattle.block_hits.specs.Hits.{Hits, Dark, in-block}
-use Rattle.lowest_kept.specs.Named.{Right}
+use Rattle.elimination.specs.Named.{Right}
 use Rattle.block_names.specs.Naming.{Naming}
 use Rattle.block_names.specs.Lowest.{named-next}
 

@@ -12,8 +12,7 @@ use Rattle.model.specs.Query.{kept}
 use Rattle.laws.specs.Bools.{on-or-off}
 use Rattle.laws.specs.Search.{none-e, find-hit, find-is}
 use Rattle.laws.specs.Order.{Rel}
-use Rattle.lowest_in_block.specs.LowestIn.{keptBetter}
-use Rattle.lowest_kept.specs.Named.{named}
+use Rattle.elimination.specs.Named.{keptBetter, named}
 
 module _ (beats : Rel ℕ) (n m x : ℕ) where
   abbrev better : ℕ → Bool

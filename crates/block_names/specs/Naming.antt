@@ -6,7 +6,7 @@ use Prim.Native.Nat.{ℕ, _+_, _≤_, _<_}
 use lib.ListN.{getD}
 use Rattle.model.specs.Query.{kept}
 use Rattle.laws.specs.Order.{Rel}
-use Rattle.lowest_kept.specs.Named.{Right}
+use Rattle.elimination.specs.Named.{Right}
 
 -- The rows below m have named the rows that they beat, and row m has named those of the rows below x that it beats.
 pub record Naming (beats : Rel ℕ) (n m x : ℕ) (by : List ℕ) : Type 0 where

@@ -22,8 +22,7 @@ use Rattle.live.specs.Alive.{Above, Beyond}
 use Rattle.elimination.specs.Elimination.{Rounds, Settled}
 use Rattle.elimination.specs.Firsts.{Firsts, firsts-start}
 use Rattle.elimination.specs.Rounds.{rounds-start}
-use Rattle.lowest_in_block.specs.LowestIn.{keptBetter}
-use Rattle.lowest_kept.specs.Named.{named, Right, Named}
+use Rattle.elimination.specs.Named.{keptBetter, named, Right, Named}
 use Rattle.entries.specs.Entry.{entryOf, nameOf, firstName}
 
 -- ---- the start

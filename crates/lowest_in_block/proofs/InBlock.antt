@@ -14,7 +14,8 @@ use Rattle.elimination.specs.Cases.{below-or-not, equal-or-not}
 use Rattle.elimination.specs.Elimination.{Settled}
 use Rattle.lit_lanes.specs.Lit.{free, hit}
 use Rattle.block_hits.specs.Hits.{Hits, Dark}
-use Rattle.lowest_in_block.specs.LowestIn.{keptBetter, LowestIn}
+use Rattle.elimination.specs.Named.{keptBetter}
+use Rattle.lowest_in_block.specs.LowestIn.{LowestIn}
 
 -- ---- lane after lane
 

@@ -1,14 +1,10 @@
 -- The lowest kept row of a block that is better than a row, over any relation: `beats j i` reads "row j is in row i's set and
 -- better".
 use mathlib.Core.Path.{_≡_}
-use mathlib.Core.Bool.{Bool, true, false, _&&_}
+use mathlib.Core.Bool.{true, false}
 use Prim.Native.Nat.{ℕ, _+_, _<_}
-use Rattle.model.specs.Query.{kept}
 use Rattle.laws.specs.Order.{Rel}
-
--- Row j is kept and better than row i.
-unfoldable pub keptBetter : Rel ℕ → ℕ → ℕ → ℕ → Bool
-keptBetter beats n i j = kept n beats j && beats j i
+use Rattle.elimination.specs.Named.{keptBetter}
 
 -- Of the 64 rows from row lo on, the one in lane r is the lowest that is kept and better than row i; none is where r is 64.
 pub record LowestIn (beats : Rel ℕ) (n i lo r : ℕ) : Type 0 where

@@ -6,8 +6,8 @@ use native.Mathlib.Omega.{arith}
 use Rattle.laws.specs.Search.{any-i, none-i, find-is}
 use Rattle.laws.specs.Order.{Rel}
 use Rattle.block_hits.specs.Hits.{in-block}
-use Rattle.lowest_in_block.specs.LowestIn.{keptBetter, LowestIn}
-use Rattle.lowest_kept.specs.Named.{named}
+use Rattle.elimination.specs.Named.{keptBetter, named}
+use Rattle.lowest_in_block.specs.LowestIn.{LowestIn}
 
 -- No row below m is kept and better than row i.
 abbrev pub NoneBelow : Rel ℕ → ℕ → ℕ → ℕ → Type 0

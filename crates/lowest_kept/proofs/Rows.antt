@@ -13,21 +13,7 @@ use Rattle.model.specs.Query.{kept}
 use Rattle.laws.specs.Order.{Rel}
 use Rattle.elimination.specs.Cases.{equal-or-not}
 use Rattle.elimination.specs.Elimination.{Settled}
-use Rattle.lowest_kept.specs.Named.{named, Right, Named, NamedTo}
-
--- ---- the rows that are gone
-
--- A row that is not gone is kept,
-pub kept-of : (beats : Rel ℕ) (n i : ℕ) (gone : List ℕ) → Settled beats n gone → i < n → getD gone i 0 ≡ 0
-    → kept n beats i ≡ true
-kept-of beats n i gone s l e = sym (s .each i l) ∙ eq-eqb (getD gone i 0) 0 e
-
--- and one that is gone is dropped.
-pub dropped-of : (beats : Rel ℕ) (n i : ℕ) (gone : List ℕ) → Settled beats n gone → i < n → (getD gone i 0 ≡ 0 → ⊥)
-    → kept n beats i ≡ false
-dropped-of beats n i gone s l e = sym (s .each i l) ∙ ne-eqb (getD gone i 0) 0 e
-
--- ---- row after row
+use Rattle.elimination.specs.Named.{named, Right, Named, NamedTo}
 
 module _ (beats : Rel ℕ) (n : ℕ) where
   -- No row is below row 0.

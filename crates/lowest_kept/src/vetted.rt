@@ -11,7 +11,7 @@ ghost use Rattle.elimination.specs.Elimination.{Settled};
 ghost use Rattle.keys.specs.Keys.{Keyed};
 ghost use Rattle.live.specs.Alive.{Above};
 ghost use Rattle.record_codes.specs.Ready.{Ready};
-ghost use Rattle.lowest_kept.specs.Named.{named, Named, NamedTo};
+ghost use Rattle.elimination.specs.Named.{named, Named, NamedTo};
 
 // Every row that is gone and has no name gets one, row after row.
 pub fn by_rows(

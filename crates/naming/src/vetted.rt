@@ -13,7 +13,7 @@ ghost use Rattle.elimination.specs.Elimination.{Settled};
 ghost use Rattle.keys.specs.Keys.{Keyed};
 ghost use Rattle.live.specs.Alive.{Above, Beyond};
 ghost use Rattle.record_codes.specs.Ready.{Ready};
-ghost use Rattle.lowest_kept.specs.Named.{Named};
+ghost use Rattle.elimination.specs.Named.{Named};
 
 // All rows that wait get their name, by whichever way goes through fewer blocks.
 pub fn name(

@@ -7,7 +7,7 @@ use Prim.Native.Nat.{ℕ, _+_, _≤_}
 use native.Mathlib.Omega.{arith}
 use Rattle.model.specs.Query.{kept}
 use Rattle.laws.specs.Order.{Rel}
-use Rattle.lowest_kept.specs.Named.{Named}
+use Rattle.elimination.specs.Named.{Named}
 use Rattle.block_names.specs.Naming.{Naming}
 use Rattle.block_names.specs.Lowest.{named-dropped}
 

@@ -10,7 +10,7 @@ ghost use Rattle.elimination.specs.Elimination.{Settled};
 ghost use Rattle.keys.specs.Keys.{Keyed};
 ghost use Rattle.live.specs.Alive.{Beyond};
 ghost use Rattle.record_codes.specs.Ready.{Ready};
-ghost use Rattle.lowest_kept.specs.Named.{Named};
+ghost use Rattle.elimination.specs.Named.{Named};
 
 // A row that is gone names none.
 pub fn name_or_skip(

@@ -3,7 +3,7 @@ use mathlib.Core.Path.{sym, _∙_}
 use native.Mathlib.Omega.{arith}
 use borrow.Author.Needs.{needs}
 use Rattle.block_hits.specs.Hits.{cells, asked-below, row-below, ready-hits, ready-dark}
-use Rattle.lowest_kept.proofs.Rows.{kept-of}
+use Rattle.elimination.specs.Gone.{kept-of}
 use Rattle.block_names.proofs.Names.{names-some, names-none, beyond-some}
 use Rattle.block_names.proofs.vetted.name_block.Statement.{statement}
 use Rattle.block_names.proofs.vetted.name_block.Tie as tie

@@ -7,7 +7,7 @@ use lib.ListN.{length}
 use borrow.Author.Needs.{needs}
 use Rattle.model.specs.Term.{termAt}
 use Rattle.model.specs.Query.{beatsIn}
-use Rattle.lowest_kept.specs.Named.{NamedTo}
+use Rattle.elimination.specs.Named.{NamedTo}
 use Rattle.lowest_kept.proofs.Rows.{to-start, to-end}
 use Rattle.lowest_kept.proofs.vetted.by_rows.Statement.{statement}
 use Rattle.lowest_kept.proofs.vetted.by_rows.Tie as tie

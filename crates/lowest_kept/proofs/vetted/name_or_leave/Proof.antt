@@ -2,7 +2,8 @@
 -- lowest. Assumes nothing.
 use native.Mathlib.Omega.{arith}
 use borrow.Author.Needs.{needs}
-use Rattle.lowest_kept.proofs.Rows.{kept-of, to-kept, to-known, to-named}
+use Rattle.elimination.specs.Gone.{kept-of}
+use Rattle.lowest_kept.proofs.Rows.{to-kept, to-known, to-named}
 use Rattle.lowest_kept.proofs.vetted.name_or_leave.Statement.{statement}
 use Rattle.lowest_kept.proofs.vetted.name_or_leave.Tie as tie
 

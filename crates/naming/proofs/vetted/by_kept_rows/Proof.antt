@@ -9,7 +9,7 @@ use borrow.Author.Needs.{needs}
 use Rattle.model.specs.Term.{termAt}
 use Rattle.model.specs.Query.{beatsIn}
 use Rattle.live.specs.Alive.{Beyond}
-use Rattle.lowest_kept.specs.Named.{Named}
+use Rattle.elimination.specs.Named.{Named}
 use Rattle.naming.proofs.vetted.by_kept_rows.Statement.{statement}
 use Rattle.naming.proofs.vetted.by_kept_rows.Tie as tie
 

@@ -1,7 +1,7 @@
 -- `row_names::vetted::name_or_skip` meets its contract: a row that is gone is dropped, and names none. Assumes
 -- nothing.
 use borrow.Author.Needs.{needs}
-use Rattle.lowest_kept.proofs.Rows.{dropped-of}
+use Rattle.elimination.specs.Gone.{dropped-of}
 use Rattle.row_names.proofs.Names.{named-gone}
 use Rattle.row_names.proofs.vetted.name_or_skip.Statement.{statement}
 use Rattle.row_names.proofs.vetted.name_or_skip.Tie as tie

@@ -2,14 +2,17 @@
 -- better".
 use mathlib.Core.Path.{_≡_}
 use mathlib.Core.Logic.{_⊎_}
-use mathlib.Core.Bool.{false, cond}
+use mathlib.Core.Bool.{Bool, false, cond, _&&_}
 use mathlib.Core.List.{List}
 use Prim.Native.Nat.{ℕ, _+_, _≤_, _<_}
 use lib.ListN.{getD}
 use Rattle.model.specs.Search.{anyBelow, findBelow}
 use Rattle.model.specs.Query.{kept}
 use Rattle.laws.specs.Order.{Rel}
-use Rattle.lowest_in_block.specs.LowestIn.{keptBetter}
+
+-- Row j is kept and better than row i.
+unfoldable pub keptBetter : Rel ℕ → ℕ → ℕ → ℕ → Bool
+keptBetter beats n i j = kept n beats j && beats j i
 
 -- The lowest of the rows below m that is kept and better than row i, or 1024.
 unfoldable pub named : Rel ℕ → ℕ → ℕ → ℕ → ℕ

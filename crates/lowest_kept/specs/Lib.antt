@@ -1,2 +1,0 @@
--- Which row is named for a row that is gone.
-pub mod Named
