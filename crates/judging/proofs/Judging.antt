@@ -25,7 +25,8 @@ use Rattle.laws.specs.Records.{kindNumber, kind-of}
 use Rattle.laws.specs.Terms.{terms-below}
 use Rattle.records.specs.Fields.{valueAt}
 use Rattle.records.proofs.ByKind.{value-of}
-use Rattle.terms.specs.Run.{Values, clashIn, loopIn}
+use Rattle.terms.specs.Run.{Values}
+use Rattle.runs.specs.Rules.{clashIn, loopIn}
 use Rattle.columns.specs.Columns.{maskBelow, Narrow}
 use Rattle.columns.proofs.MaskLoop.{masks-columns}
 use Rattle.passing.specs.Passing.{Cleared}

@@ -1,9 +1,9 @@
--- `terms::vetted::run::goes_on_with` meets its contract. Assumes nothing.
+-- `runs::vetted::goes_on_with` meets its contract. Assumes nothing.
 use borrow.Author.Needs.{sfits-of, needs}
 use Rattle.records.proofs.Signed.{eq-bits}
-use Rattle.terms.specs.Run.{goesOn}
-use Rattle.terms.proofs.vetted.run.goes_on_with.Statement.{statement}
-use Rattle.terms.proofs.vetted.run.goes_on_with.Tie as tie
+use Rattle.runs.specs.Rules.{goesOn}
+use Rattle.runs.proofs.vetted.goes_on_with.Statement.{statement}
+use Rattle.runs.proofs.vetted.goes_on_with.Tie as tie
 
 u-at-requires : tie.Need-u-at-requires
 u-at-requires c κs = search needs

@@ -1,9 +1,9 @@
--- `terms::vetted::run::goes_on_and_back` meets its contract. Assumes nothing.
+-- `runs::vetted::goes_on_and_back` meets its contract. Assumes nothing.
 use mathlib.Core.Path.{_∙_, sym}
 use borrow.Author.Needs.{needs}
-use Rattle.terms.specs.Run.{onAndBack}
-use Rattle.terms.proofs.vetted.run.goes_on_and_back.Statement.{statement}
-use Rattle.terms.proofs.vetted.run.goes_on_and_back.Tie as tie
+use Rattle.runs.specs.Rules.{onAndBack}
+use Rattle.runs.proofs.vetted.goes_on_and_back.Statement.{statement}
+use Rattle.runs.proofs.vetted.goes_on_and_back.Tie as tie
 
 goes-on-requires : tie.Need-goes-on-requires
 goes-on-requires c κs = search needs

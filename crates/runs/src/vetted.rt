@@ -1,19 +1,20 @@
-// The refusals that look at the earlier values of a term (document 01), of value record k whose term is record j.
-use crate::vetted::closure::closure;
+// The refusals that look at the earlier values of a term (document 01), of value record k whose term is record j. They are no
+// public calls: each asks what the check has shown before.
 use records::record::kind_at;
 use records::record::p_at;
 use records::record::u_at;
 use records::record::u_word;
 use records::record::v_at;
 use records::record::v_word;
+use terms::vetted::closure::closure;
 ghost use mathlib.Core.Path.{_≡_};
 ghost use Prim.Native.Nat.{_≤_, _<_, _+_};
 ghost use Rattle.model.specs.Search.{anyIn};
 ghost use Rattle.model.specs.Check.{clash, closesCycle};
 ghost use Rattle.laws.specs.Runs.{valuesBetween};
 ghost use Rattle.records.specs.Fields.{valueAt};
 ghost use Rattle.terms.specs.Run.{Values};
-ghost use Rattle.terms.specs.Run.{clashIn, goesOn, onAndBack, loopIn};
+ghost use Rattle.runs.specs.Rules.{clashIn, goesOn, onAndBack, loopIn};
 
 // 10 CLASH: POS/NEG or POS/POS value standing earlier in its term's run under the other role.
 pub fn fails_clash(table: &[u8], j: u8, k: u8) -> bool

@@ -1,4 +1,4 @@
--- `terms::vetted::run::fails_loop` meets its contract. Assumes nothing.
+-- `runs::vetted::fails_loop` meets its contract. Assumes nothing.
 use mathlib.Core.Bool.{true}
 use mathlib.Core.Path.{_≡_}
 use lib.Dec.{eqb}
@@ -6,9 +6,9 @@ use denote.Ref.{now}
 use borrow.Author.Tests.{ne-eqb, eq-eqb}
 use borrow.Author.Needs.{needs}
 use Rattle.model.specs.Record.{pAt}
-use Rattle.terms.specs.Run.{loopIn}
-use Rattle.terms.proofs.vetted.run.fails_loop.Statement.{statement}
-use Rattle.terms.proofs.vetted.run.fails_loop.Tie as tie
+use Rattle.runs.specs.Rules.{loopIn}
+use Rattle.runs.proofs.vetted.fails_loop.Statement.{statement}
+use Rattle.runs.proofs.vetted.fails_loop.Tie as tie
 
 p-at-requires : tie.Need-p-at-requires
 p-at-requires c κs = search needs

@@ -1,4 +1,4 @@
--- `terms::vetted::run::closes_cycle` meets its contract. Assumes nothing.
+-- `runs::vetted::closes_cycle` meets its contract. Assumes nothing.
 use mathlib.Core.Path.{sym, _∙_}
 use mathlib.Core.Bool.{or-false}
 use Prim.Native.Nat.{_+_, _*_}
@@ -12,9 +12,9 @@ use Rattle.laws.specs.Records.{Bytes, word-small}
 use Rattle.laws.specs.Runs.{valuesBetween}
 use Rattle.records.specs.Fields.{uWord, vWord, valueAt}
 use Rattle.records.proofs.Signed.{eq-signed}
-use Rattle.terms.proofs.Paths.{no-path}
-use Rattle.terms.proofs.vetted.run.closes_cycle.Statement.{statement}
-use Rattle.terms.proofs.vetted.run.closes_cycle.Tie as tie
+use Rattle.runs.proofs.Paths.{no-path}
+use Rattle.runs.proofs.vetted.closes_cycle.Statement.{statement}
+use Rattle.runs.proofs.vetted.closes_cycle.Tie as tie
 
 goes-on-and-back-requires : tie.Need-goes-on-and-back-requires
 goes-on-and-back-requires c κs = search needs

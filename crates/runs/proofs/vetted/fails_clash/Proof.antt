@@ -1,8 +1,8 @@
--- `terms::vetted::run::fails_clash` meets its contract. Assumes nothing.
+-- `runs::vetted::fails_clash` meets its contract. Assumes nothing.
 use borrow.Author.Needs.{needs}
-use Rattle.terms.specs.Run.{clashIn}
-use Rattle.terms.proofs.vetted.run.fails_clash.Statement.{statement}
-use Rattle.terms.proofs.vetted.run.fails_clash.Tie as tie
+use Rattle.runs.specs.Rules.{clashIn}
+use Rattle.runs.proofs.vetted.fails_clash.Statement.{statement}
+use Rattle.runs.proofs.vetted.fails_clash.Tie as tie
 
 kind-at-requires : tie.Need-kind-at-requires
 kind-at-requires c κs = search needs

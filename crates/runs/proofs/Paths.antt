@@ -10,7 +10,7 @@ use Rattle.model.specs.Search.{anyIn}
 use Rattle.model.specs.Better.{reaches}
 use Rattle.laws.specs.Bools.{on-or-off}
 use Rattle.laws.specs.Members.{or-off, and-off}
-use Rattle.terms.specs.Run.{goesOn, onAndBack}
+use Rattle.runs.specs.Rules.{goesOn, onAndBack}
 
 starts-none : (es : List Value) (x y : ℤ) → anyIn es (λ (b : Value). eqZ x (b .u)) ≡ false → reaches es x y ≡ false
 unfolding anyIn reaches

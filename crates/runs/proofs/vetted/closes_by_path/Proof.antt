@@ -1,4 +1,4 @@
--- `terms::vetted::run::closes_by_path` meets its contract. Assumes nothing.
+-- `runs::vetted::closes_by_path` meets its contract. Assumes nothing.
 use Prim.Native.Nat.{_+_, _*_, _-_, _<_}
 use native.Mathlib.Omega.{arith}
 use denote.Ref.{now}
@@ -9,10 +9,10 @@ use Rattle.model.specs.Check.{closesCycle}
 use Rattle.laws.specs.Records.{Bytes, word-small}
 use Rattle.records.specs.Fields.{uWord, vWord}
 use Rattle.records.proofs.Signed.{eq-signed}
 use Rattle.terms.specs.Closure.{cellAt}
 use Rattle.terms.proofs.Cells.{end-u, end-v}
-use Rattle.terms.proofs.vetted.run.closes_by_path.Statement.{statement}
-use Rattle.terms.proofs.vetted.run.closes_by_path.Tie as tie
+use Rattle.runs.proofs.vetted.closes_by_path.Statement.{statement}
+use Rattle.runs.proofs.vetted.closes_by_path.Tie as tie
 
 closure-requires : tie.Need-closure-requires
 closure-requires c κs = search needs

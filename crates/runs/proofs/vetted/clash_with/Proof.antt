@@ -1,9 +1,9 @@
--- `terms::vetted::run::clash_with` meets its contract. Assumes nothing.
+-- `runs::vetted::clash_with` meets its contract. Assumes nothing.
 use borrow.Author.Needs.{sfits-of, needs}
 use Rattle.model.specs.Check.{clash}
 use Rattle.records.proofs.Signed.{eq-bits}
-use Rattle.terms.proofs.vetted.run.clash_with.Statement.{statement}
-use Rattle.terms.proofs.vetted.run.clash_with.Tie as tie
+use Rattle.runs.proofs.vetted.clash_with.Statement.{statement}
+use Rattle.runs.proofs.vetted.clash_with.Tie as tie
 
 u-at-requires : tie.Need-u-at-requires
 u-at-requires c κs = search needs
