@@ -1,11 +1,11 @@
--- `values::vetted::prepared::number_at` meets its contract. Assumes nothing.
+-- `prepared::vetted::number_at` meets its contract. Assumes nothing.
 use mathlib.Core.Path.{_∙_}
 use mir.Facts.{toZ-ofZ}
 use borrow.Author.Tests.{eq-eqb, ne-eqb}
 use borrow.Author.Needs.{sfits-of, needs}
 use Rattle.values.specs.Prepared.{numberAt}
-use Rattle.values.proofs.vetted.prepared.number_at.Statement.{statement}
-use Rattle.values.proofs.vetted.prepared.number_at.Tie as tie
+use Rattle.prepared.proofs.vetted.number_at.Statement.{statement}
+use Rattle.prepared.proofs.vetted.number_at.Tie as tie
 
 cast-k : tie.Need-cast-k
 cast-k c = search needs

@@ -1,4 +1,4 @@
--- `values::vetted::prepared::numbers` meets its contract. The first `i` numbers stand in the array. Assumes nothing.
+-- `prepared::vetted::numbers` meets its contract. The first `i` numbers stand in the array. Assumes nothing.
 use mathlib.Core.Path.{_≡_, refl, sym, _∙_}
 use mathlib.Core.Logic.{⊎-elim}
 use Prim.Native.Nat.{ℕ, _-_, _≤_, _<_}
@@ -16,10 +16,10 @@ use borrow.Author.Needs.{sfits-of, needs}
 use borrow.Author.Tests.{ltb-true, ltb-false}
 use Rattle.laws.specs.Bools.{on-or-off}
 use Rattle.laws.specs.Fill.{fill-more}
 use Rattle.values.specs.Prepared.{numberAt}
-use Rattle.values.proofs.PastEnd.{number-past}
-use Rattle.values.proofs.vetted.prepared.numbers.Statement.{statement}
-use Rattle.values.proofs.vetted.prepared.numbers.Tie as tie
+use Rattle.prepared.proofs.PastEnd.{number-past}
+use Rattle.prepared.proofs.vetted.numbers.Statement.{statement}
+use Rattle.prepared.proofs.vetted.numbers.Tie as tie
 
 abbrev Inv-loop : tie.InvT-loop
 Inv-loop table last a₀ i₀ a i =

@@ -1,14 +1,14 @@
--- `values::vetted::prepared::put_rows` meets its contract. The rows before row `i` stand. Assumes nothing.
+-- `prepared::vetted::put_rows` meets its contract. The rows before row `i` stand. Assumes nothing.
 use mathlib.Core.Path.{_≡_}
 use Prim.Native.Nat.{_+_, _*_, _-_, _≤_, _<_}
 use native.Mathlib.Omega.{arith}
 use lib.ListN.{length}
 use denote.Ref.{now}
 use borrow.Author.Needs.{needs}
 use Rattle.values.specs.Prepared.{RowsPut}
-use Rattle.values.proofs.Rows.{put-none, put-more}
-use Rattle.values.proofs.vetted.prepared.put_rows.Statement.{statement}
-use Rattle.values.proofs.vetted.prepared.put_rows.Tie as tie
+use Rattle.prepared.proofs.Rows.{put-none, put-more}
+use Rattle.prepared.proofs.vetted.put_rows.Statement.{statement}
+use Rattle.prepared.proofs.vetted.put_rows.Tie as tie
 
 abbrev Inv-loop : tie.InvT-loop
 Inv-loop reach₀ g k e start last i₀ reach i =

@@ -1,4 +1,4 @@
--- `values::vetted::prepared::fill_closures` meets its contract. The rows of the terms below record `k` stand. Assumes nothing.
+-- `prepared::vetted::fill_closures` meets its contract. The rows of the terms below record `k` stand. Assumes nothing.
 use mathlib.Core.Path.{_≡_, refl, sym, _∙_, ap, subst}
 use mathlib.Core.Logic.{⊎-elim}
 use Prim.Native.Nat.{_+_, _-_, _≤_}
@@ -8,10 +8,10 @@ use lib.ListN.{length}
 use denote.Ref.{now}
 use borrow.Author.Needs.{needs}
 use Rattle.model.specs.Record.{recordCount}
-use Rattle.values.proofs.RunEnd.{few-records}
-use Rattle.values.proofs.Rows.{ReachedBelow, nine-term, below-other, below-more}
-use Rattle.values.proofs.vetted.prepared.fill_closures.Statement.{statement}
-use Rattle.values.proofs.vetted.prepared.fill_closures.Tie as tie
+use Rattle.prepared.proofs.RunEnd.{few-records}
+use Rattle.prepared.proofs.Rows.{ReachedBelow, nine-term, below-other, below-more}
+use Rattle.prepared.proofs.vetted.fill_closures.Statement.{statement}
+use Rattle.prepared.proofs.vetted.fill_closures.Tie as tie
 
 abbrev Inv-loop : tie.InvT-loop
 Inv-loop table ends reach₀ n k₀ reach k = (k ≤ n) × (length reach ≡ 256) × ReachedBelow table ends k reach

@@ -1,5 +1,5 @@
 // What is prepared of an accepted table once, before rows are compared: its numbers, where each term's values end, and what
-// the edges of each EXPLICIT term reach.
+// the edges of each EXPLICIT term reach. They are no public calls: each asks what the check has shown before.
 use model::RECORD_BYTES;
 use records::parts::is_term_at;
 use records::record::kind_at;

@@ -1,8 +1,8 @@
--- `values::vetted::prepared::first_term` meets its contract. Assumes nothing.
+-- `prepared::vetted::first_term` meets its contract. Assumes nothing.
 use mathlib.Core.Path.{sym, _∙_}
 use borrow.Author.Needs.{needs}
-use Rattle.values.proofs.vetted.prepared.first_term.Statement.{statement}
-use Rattle.values.proofs.vetted.prepared.first_term.Tie as tie
+use Rattle.prepared.proofs.vetted.first_term.Statement.{statement}
+use Rattle.prepared.proofs.vetted.first_term.Tie as tie
 
 is-term-at-requires : tie.Need-is-term-at-requires
 is-term-at-requires c κs = search needs

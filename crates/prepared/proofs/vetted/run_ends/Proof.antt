@@ -1,4 +1,4 @@
--- `values::vetted::prepared::run_ends` meets its contract. The records from `k` on have theirs, and `next` is the first term from
+-- `prepared::vetted::run_ends` meets its contract. The records from `k` on have theirs, and `next` is the first term from
 -- `k` on. Assumes nothing.
 use mathlib.Core.Path.{_≡_, refl, sym, _∙_, subst}
 use mathlib.Core.Logic.{⊎-elim}
@@ -10,10 +10,10 @@ use denote.Ref.{now}
 use borrow.Author.Needs.{needs}
 use Rattle.model.specs.Record.{recordCount}
 use Rattle.laws.specs.Search.{lt-suc-cases}
 use Rattle.values.specs.Prepared.{NextTerm}
-use Rattle.values.proofs.RunEnd.{few-records, next-run, FirstFrom, first-none, first-next, first-down}
-use Rattle.values.proofs.vetted.prepared.run_ends.Statement.{statement}
-use Rattle.values.proofs.vetted.prepared.run_ends.Tie as tie
+use Rattle.prepared.proofs.RunEnd.{few-records, next-run, FirstFrom, first-none, first-next, first-down}
+use Rattle.prepared.proofs.vetted.run_ends.Statement.{statement}
+use Rattle.prepared.proofs.vetted.run_ends.Tie as tie
 
 abbrev Inv-loop : tie.InvT-loop
 Inv-loop table n ends₀ next₀ k₀ ends next k =

@@ -1,4 +1,4 @@
--- `values::vetted::prepared::has_explicit` meets its contract. `some` tells of the records below `k`. Assumes nothing.
+-- `prepared::vetted::has_explicit` meets its contract. `some` tells of the records below `k`. Assumes nothing.
 use mathlib.Core.Path.{_≡_, refl, sym, _∙_}
 use Prim.Native.Nat.{ℕ, _-_, _≤_}
 use native.Mathlib.Numerals.{add-one}
@@ -8,9 +8,9 @@ use denote.Ref.{now}
 use borrow.Author.Needs.{needs}
 use Rattle.model.specs.Search.{anyBelow}
 use Rattle.model.specs.Record.{recordCount, kindAt}
-use Rattle.values.proofs.RunEnd.{few-records}
-use Rattle.values.proofs.vetted.prepared.has_explicit.Statement.{statement}
-use Rattle.values.proofs.vetted.prepared.has_explicit.Tie as tie
+use Rattle.prepared.proofs.RunEnd.{few-records}
+use Rattle.prepared.proofs.vetted.has_explicit.Statement.{statement}
+use Rattle.prepared.proofs.vetted.has_explicit.Tie as tie
 
 abbrev Inv-loop : tie.InvT-loop
 Inv-loop table n some₀ k₀ some k = (k ≤ n) × (some ≡ anyBelow k (λ (j : ℕ). eqb (kindAt table j) 9))
