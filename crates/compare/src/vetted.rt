@@ -1,9 +1,9 @@
 // The comparison that rests on a table that the check has accepted.
 use model::Outcome;
 use outcomes::vetted::rows::compare_rows;
-use values::vetted::prepared::fill_closures;
-use values::vetted::prepared::numbers;
-use values::vetted::prepared::run_ends;
+use prepared::vetted::fill_closures;
+use prepared::vetted::numbers;
+use prepared::vetted::run_ends;
 ghost use mathlib.Core.Path.{_≡_};
 ghost use Rattle.model.specs.Term.{termAt};
 ghost use Rattle.model.specs.Compare.{outcome};

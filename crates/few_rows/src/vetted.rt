@@ -2,14 +2,14 @@
 // once, a square for each record, a compound's from those of its parts, and the answers are read off the asked term's. No public
 // calls: each asks what the calls of Query have shown before.
 use lone_rows::vetted::own_entries;
+use prepared::vetted::fill_closures;
+use prepared::vetted::has_explicit;
+use prepared::vetted::numbers;
+use prepared::vetted::run_ends;
 use square_entries::vetted::square_entries;
 use square_groups::vetted::all_apart;
 use square_groups::vetted::fill_apart;
 use squares::vetted::fill_squares;
-use values::vetted::prepared::fill_closures;
-use values::vetted::prepared::has_explicit;
-use values::vetted::prepared::numbers;
-use values::vetted::prepared::run_ends;
 ghost use Prim.Native.Nat.{_+_, _*_, _≤_};
 ghost use lib.ListN.{length};
 ghost use Rattle.model.specs.Term.{termAt};

@@ -3,9 +3,9 @@
 use extremes::vetted::base::base_mark;
 use model::CompoundTerm;
 use model::Record;
+use prepared::vetted::numbers;
+use prepared::vetted::run_ends;
 use records::record::record_at;
-use values::vetted::prepared::numbers;
-use values::vetted::prepared::run_ends;
 ghost use mathlib.Core.Path.{_≡_};
 ghost use mathlib.Core.Bool.{false};
 ghost use lib.ListN.{getD};

@@ -1,9 +1,9 @@
 // Room for so many ranks, then where the values of terms end, with room for what edges reach if there are any. No public calls:
 // each asks for rows that were accepted, and for room for their cells.
 use block_entries::vetted::ranked;
-use values::vetted::prepared::fill_closures;
-use values::vetted::prepared::has_explicit;
-use values::vetted::prepared::run_ends;
+use prepared::vetted::fill_closures;
+use prepared::vetted::has_explicit;
+use prepared::vetted::run_ends;
 ghost use Prim.Native.Nat.{_≤_};
 ghost use lib.ListN.{length};
 ghost use Rattle.model.specs.Term.{termAt};

@@ -11,7 +11,8 @@ use Rattle.laws.specs.AcceptedRuns.{Run, run-of}
 use Rattle.laws.specs.ValueRules.{value-crowd, value-clash, value-loop}
 use Rattle.laws.specs.Records.{kindNumber, kind-of}
 use Rattle.records.specs.Fields.{valueAt}
-use Rattle.terms.specs.Run.{Values, clashIn, loopIn}
+use Rattle.terms.specs.Run.{Values}
+use Rattle.runs.specs.Rules.{clashIn, loopIn}
 use Rattle.judging_steps.specs.Judging.{ValueFielded}
 use Rattle.judging_steps.proofs.Fielded.{rest-of, below}
 

@@ -1,15 +1,9 @@
--- A run of value records after a term record, and the rules that look at it with the term handed in.
+-- A run of value records after a term record.
 use mathlib.Core.Path.{_≡_}
-use mathlib.Core.Bool.{Bool, true, false, cond, _&&_, _||_}
 use mathlib.Core.List.{List}
 use Prim.Native.Nat.{ℕ, _+_, _<_, _≤_}
-use lib.Dec.{eqb}
-use Rattle.model.specs.declared.{Record.Record, Value.Value}
-use Rattle.model.specs.Bytes.{eqZ}
-use Rattle.model.specs.Search.{anyIn}
-use Rattle.model.specs.Record.{kindAt, pAt, recordAt}
-use Rattle.model.specs.Check.{clash, closesCycle}
-use Rattle.laws.specs.Runs.{valuesBetween}
+use Rattle.model.specs.declared.{Record.Record}
+use Rattle.model.specs.Record.{recordAt}
 use Rattle.records.specs.Fields.{valueAt}
 
 -- The records between j and k are at most 16 value records.
@@ -18,20 +12,3 @@ pub record Values (table : List ℕ) (j k : ℕ) : Type 0 where
   pub few : k ≤ j + 17
   pub last : k ≤ 128
   pub each : (i : ℕ) → j < i → i < k → recordAt table i ≡ Record.Value (valueAt table i)
-
--- 10 CLASH, of value record k whose term is record j.
-unfoldable pub clashIn : List ℕ → ℕ → ℕ → Bool
-clashIn table j k =
-    (eqb (kindAt table j) 7 || eqb (kindAt table j) 8) && anyIn (valuesBetween table j k) (clash (valueAt table k))
-
--- Edge b begins where edge a ends; backward, it ends where edge a begins.
-unfoldable pub goesOn : Bool → Value → Value → Bool
-goesOn back a b = cond back (eqZ (a .u) (b .v)) (eqZ (a .v) (b .u))
-
--- One of the edges goes on from edge a, and one backward.
-unfoldable pub onAndBack : List Value → Value → Bool
-onAndBack edges a = anyIn edges (goesOn false a) && anyIn edges (goesOn true a)
-
--- 11 LOOP, of value record k whose term is record j.
-unfoldable pub loopIn : List ℕ → ℕ → ℕ → Bool
-loopIn table j k = eqb (pAt table k) 4 && closesCycle (valuesBetween table j k) (valueAt table k)

@@ -1,4 +1,1 @@
 pub mod Ends
-pub mod RunEnd
-pub mod PastEnd
-pub mod Rows
