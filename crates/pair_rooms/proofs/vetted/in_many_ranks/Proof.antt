@@ -1,4 +1,4 @@
--- `direct::vetted::in_many_ranks` meets its contract. Assumes nothing.
+-- `pair_rooms::vetted::in_many_ranks` meets its contract. Assumes nothing.
 use Prim.Native.Nat.{ℕ, _+_, _*_, _/_, _≤_}
 use native.Mathlib.Omega.{arith}
 use lib.ListN.{length}
@@ -7,8 +7,8 @@ use borrow.Author.Needs.{needs}
 use Rattle.cells.specs.Values.{Room}
 use Rattle.selection.specs.Selected.{AskedRows, StrideFor}
 use Rattle.selection.specs.Ranks.{room-for, most-ranks}
-use Rattle.direct.proofs.vetted.in_many_ranks.Statement.{statement}
-use Rattle.direct.proofs.vetted.in_many_ranks.Tie as tie
+use Rattle.pair_rooms.proofs.vetted.in_many_ranks.Statement.{statement}
+use Rattle.pair_rooms.proofs.vetted.in_many_ranks.Tie as tie
 
 -- All ranks take at most 131,072 entries.
 most : (s : tie.Start) → (s .args .n + 63) / 64 * s .args .stride ≤ 131072

@@ -1,10 +1,10 @@
--- `direct::vetted::prepared` meets its contract. Assumes nothing.
+-- `pair_rooms::vetted::prepared` meets its contract. Assumes nothing.
 use mathlib.Core.Path.{sym, _∙_}
 use Rattle.values.specs.Edges.{no-edges}
 use Rattle.selection.specs.Taken.{vetted}
 use borrow.Author.Needs.{needs}
-use Rattle.direct.proofs.vetted.prepared.Statement.{statement}
-use Rattle.direct.proofs.vetted.prepared.Tie as tie
+use Rattle.pair_rooms.proofs.vetted.prepared.Statement.{statement}
+use Rattle.pair_rooms.proofs.vetted.prepared.Tie as tie
 
 run-ends-requires : tie.Need-run-ends-requires
 run-ends-requires c κs = search needs
