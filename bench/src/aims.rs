@@ -40,7 +40,7 @@ impl Aim {
 pub fn print(all: &[Line]) {
     println!("### The aims\n");
     let of = |rows| all.iter().filter(move |line| line.rows == rows);
-    let by_parts = |line: &Line| line.direct / line.by_parts;
+    let by_parts = |line: &Line| line.direct_to_by_parts;
     let most: Vec<_> = of(MOST_ROWS).collect();
     let words = "By parts at least as fast as direct, 1,024 rows";
     Aim::new(words.to_string(), 1.0, by_parts).print(&most);
@@ -51,8 +51,8 @@ pub fn print(all: &[Line]) {
     for rows in SIZES {
         let lines: Vec<_> = of(rows).collect();
         let words = |engine| format!("{engine} ahead of the peer, {} rows", whole(rows));
-        Aim::new(words("Direct"), 1.0, |line| line.peer / line.direct).print(&lines);
-        Aim::new(words("By parts"), 1.0, |line| line.peer / line.by_parts).print(&lines);
+        Aim::new(words("Direct"), 1.0, |line| line.peer_to_direct).print(&lines);
+        Aim::new(words("By parts"), 1.0, |line| line.peer_to_by_parts).print(&lines);
     }
     println!();
 }

@@ -65,8 +65,19 @@ pub fn median(mut times: Vec<f64>) -> f64 {
     times[times.len() / 2]
 }
 
-/// Microseconds of one call of each. In a round each is measured once, so that a slow stretch of the machine meets all.
+/// The median of the rounds' own ratios: where the machine is slow for some rounds, both of a round are.
+pub fn ratio(over: &[f64], under: &[f64]) -> f64 {
+    median(over.iter().zip(under).map(|(a, b)| a / b).collect())
+}
+
+/// Microseconds of one call of each, the median of the rounds.
 pub fn medians(pace: Pace, calls: &mut [&mut dyn FnMut()]) -> Vec<f64> {
+    rounds(pace, calls).into_iter().map(median).collect()
+}
+
+/// Microseconds of one call of each, round by round. In a round each is measured once, so that a slow stretch of the machine
+/// meets all.
+pub fn rounds(pace: Pace, calls: &mut [&mut dyn FnMut()]) -> Vec<Vec<f64>> {
     let mut batches = vec![1; calls.len()];
     if pace.batch > 0.0 {
         for (batch, call) in batches.iter_mut().zip(calls.iter_mut()) {
@@ -79,13 +90,13 @@ pub fn medians(pace: Pace, calls: &mut [&mut dyn FnMut()]) -> Vec<f64> {
             times[i].push(each(batches[i], call) * 1e6);
         }
     }
-    times.into_iter().map(median).collect()
+    times
 }
 
 const FLUSHED: usize = 64 << 20;
 
-/// Microseconds of one call of each, 64 MiB walked before every call: nothing of the buffers is left in the caches.
-pub fn cold_medians(rounds: usize, calls: &mut [&mut dyn FnMut()]) -> Vec<f64> {
+/// The same with 64 MiB walked before every call: nothing of the buffers is left in the caches.
+pub fn cold_rounds(rounds: usize, calls: &mut [&mut dyn FnMut()]) -> Vec<Vec<f64>> {
     let mut walked = vec![1u8; FLUSHED];
     let mut times = vec![Vec::new(); calls.len()];
     for _ in 0..rounds {
@@ -97,5 +108,5 @@ pub fn cold_medians(rounds: usize, calls: &mut [&mut dyn FnMut()]) -> Vec<f64> {
             times[i].push(each(1, call) * 1e6);
         }
     }
-    times.into_iter().map(median).collect()
+    times
 }

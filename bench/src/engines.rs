@@ -115,9 +115,14 @@ pub fn timed(pace: Pace, load: &Load, count: usize) -> Vec<f64> {
     with_calls(load, count, |calls| clock::medians(pace, calls))
 }
 
+/// The same, round by round.
+pub fn timed_rounds(pace: Pace, load: &Load, count: usize) -> Vec<Vec<f64>> {
+    with_calls(load, count, |calls| clock::rounds(pace, calls))
+}
+
 /// The same, each call with cold buffers.
-pub fn timed_cold(rounds: usize, load: &Load, count: usize) -> Vec<f64> {
-    with_calls(load, count, |calls| clock::cold_medians(rounds, calls))
+pub fn timed_cold(rounds: usize, load: &Load, count: usize) -> Vec<Vec<f64>> {
+    with_calls(load, count, |calls| clock::cold_rounds(rounds, calls))
 }
 
 fn with_calls<R>(load: &Load, count: usize, run: impl Fn(&mut [&mut dyn FnMut()]) -> R) -> R {

@@ -48,7 +48,7 @@ fn run(options: &Options) -> Result<(), String> {
     println!("# Bench\n");
     machine::describe();
     println!(
-        "Each figure is the median of {} rounds, in processor time of this process.\n",
+        "Each figure is the median of {} rounds, in processor time of this process; in table 1 each ratio is the median of the rounds' own.\n",
         pace.rounds
     );
     overview::print(pace)?;

@@ -1,7 +1,7 @@
 //! Table 1: every load at three sizes by the three, the smallest queries, and cold buffers.
 use crate::aims;
 use crate::clock::{self, Pace};
-use crate::engines::{agreed, check, timed, timed_cold};
+use crate::engines::{agreed, check, timed_cold, timed_rounds};
 use crate::loads::{self, Load};
 use crate::markdown::{figure, table, whole};
 use crate::rows::{MOST_ROWS, V};
@@ -22,51 +22,52 @@ const HEAD: [&str; 9] = [
     "direct/by parts",
 ];
 
-/// One load at one size: microseconds of each of the three.
+/// One load at one size: microseconds of each of the three, and their ratios.
 pub struct Line {
     pub name: String,
     pub rows: usize,
     pub kept: usize,
-    pub direct: f64,
-    pub by_parts: f64,
-    pub peer: f64,
+    times: Vec<f64>,
+    pub peer_to_direct: f64,
+    pub peer_to_by_parts: f64,
+    pub direct_to_by_parts: f64,
 }
 
 impl Line {
-    fn new(load: &Load, rows: usize, kept: usize, times: Vec<f64>) -> Line {
+    fn new(load: &Load, rows: usize, kept: usize, rounds: Vec<Vec<f64>>) -> Line {
+        let ratio = |over: usize, under: usize| clock::ratio(&rounds[over], &rounds[under]);
         Line {
             name: load.name.clone(),
             rows,
             kept,
-            direct: times[0],
-            by_parts: times[1],
-            peer: times[2],
+            peer_to_direct: ratio(2, 0),
+            peer_to_by_parts: ratio(2, 1),
+            direct_to_by_parts: ratio(0, 1),
+            times: rounds.into_iter().map(clock::median).collect(),
         }
     }
 
     fn warm(pace: Pace, load: &Load, rows: usize) -> Result<Line, String> {
         let kept = agreed(load, rows)?;
-        Ok(Line::new(load, rows, kept, timed(pace, load, rows)))
+        Ok(Line::new(load, rows, kept, timed_rounds(pace, load, rows)))
     }
 
     fn cold(pace: Pace, load: &Load, rows: usize) -> Result<Line, String> {
         let kept = agreed(load, rows)?;
-        let times = timed_cold(pace.rounds, load, rows);
-        Ok(Line::new(load, rows, kept, times))
+        let rounds = timed_cold(pace.rounds, load, rows);
+        Ok(Line::new(load, rows, kept, rounds))
     }
 
     fn cells(&self) -> Vec<String> {
-        vec![
-            self.name.clone(),
-            whole(self.rows),
-            whole(self.kept),
-            figure(self.direct),
-            figure(self.by_parts),
-            figure(self.peer),
-            figure(self.peer / self.direct),
-            figure(self.peer / self.by_parts),
-            figure(self.direct / self.by_parts),
-        ]
+        let mut cells = vec![self.name.clone(), whole(self.rows), whole(self.kept)];
+        cells.extend(self.times.iter().copied().map(figure));
+        let ratios = [
+            self.peer_to_direct,
+            self.peer_to_by_parts,
+            self.direct_to_by_parts,
+        ];
+        cells.extend(ratios.map(figure));
+        cells
     }
 }
 
