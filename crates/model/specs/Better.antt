@@ -47,7 +47,7 @@ reaches (e ∷ edges) x y =
     || (eqZ x (e .u) || reaches edges x (e .u)) && (eqZ y (e .v) || reaches edges (e .v) y)
 
 -- The same as a path: one edge or more, each beginning where the one before it ends. Contracts cite `reaches`; that it
--- is true exactly where there is a path is the theorem `reaches_is_path` of `laws`.
+-- is true exactly where there is a path is the theorem `reaches_is_path` of `theorems`.
 pub data ByEdges (edges : List Value) : ℤ → ℤ → Type 0 where
   step : {e : Value} → List·Memᴰ e edges → ByEdges edges (e .u) (e .v)
   more : {e : Value} {y : ℤ} → List·Memᴰ e edges → ByEdges edges (e .v) y → ByEdges edges (e .u) y
@@ -82,7 +82,7 @@ cell x column = getD x column (pos 0)
 unfoldable pub equalIn : ℕ → Row → Row → Bool
 equalIn mask x y = not (anyBelow 8 (λ j. bit mask j && not (eqZ (cell x j) (cell y j))))
 
--- The same as a type: the theorem `equal_is_cells` of `laws` says that they agree.
+-- The same as a type: the theorem `equal_is_cells` of `theorems` says that they agree.
 abbrev pub EqualIn : ℕ → Row → Row → Type 0
 EqualIn mask x y = (j : ℕ) → j < 8 → bit mask j ≡ true → cell x j ≡ cell y j
 
