@@ -1,8 +1,5 @@
 // The direct engine: rows are compared pair by pair, by ranks that are found once per query; a row that is gone is not
 // compared again, and a dropped row's witness comes from the list of kept rows.
-use different_keys::vetted::all_differ;
-use keys::vetted::fill_keys;
-use lone_rows::vetted::own_entries;
 use pair_rooms::vetted::in_1024_ranks;
 use pair_rooms::vetted::in_5120_ranks;
 use pair_rooms::vetted::in_8192_ranks;
@@ -30,9 +27,6 @@ pub fn selected(
 {
     let n = rows.len() / columns;
     let stride = (term as usize) * 64 + 64;
-    if n <= 16 {
-        return of_few_rows(table, columns, rows, n, stride, term, group, answers);
-    }
     if n <= 64 {
         return in_one_block(table, columns, rows, n, stride, term, group, answers);
     }
@@ -40,32 +34,6 @@ pub fn selected(
         return in_four_blocks(table, columns, rows, n, stride, term, group, answers);
     }
     in_blocks(table, columns, rows, n, stride, term, group, answers)
-}
-
-// Few rows in groups may each be alone, and then none is compared.
-fn of_few_rows(
-    table: &[u8],
-    columns: usize,
-    rows: &[i32],
-    n: usize,
-    stride: usize,
-    term: u8,
-    group: u8,
-    answers: &mut [u16],
-) -> u16
-    requires { ⌜ AskedRows (now table) columns term (now rows) n × StrideFor term stride × (n ≤ 16) × (n ≤ length (now answers)) ⌝ }
-    ensures { λ r. ⌜ Selected (beatsIn (termAt (now (table .entry)) term) columns (now (rows .entry)) group) n
-        (now (answers .entry)) (now (answers .exit)) r ⌝ }
-{
-    if group == 0 {
-        return in_one_block(table, columns, rows, n, stride, term, group, answers);
-    }
-    let mut keys = [0u8; 16];
-    fill_keys(group, columns, rows, n, &mut keys);
-    if all_differ(n, &keys) {
-        return own_entries(n, answers);
-    }
-    in_one_block(table, columns, rows, n, stride, term, group, answers)
 }
 
 // One block: 16 records, 80, or all 128.

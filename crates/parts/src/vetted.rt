@@ -1,7 +1,6 @@
 // The engine by parts: a wish's answers come from those of its parts. Ranks of every base record beneath the asked term once
 // per query; then for a row and a block of 64 rows one code per row and record, compounds from their parts' codes; rows that
 // are beaten are gone; then the kept rows name the rows that they beat.
-use few_rows::vetted::of_few_rows;
 use rank_rooms::vetted::in_1024_ranks;
 use rank_rooms::vetted::in_8192_ranks;
 use rank_rooms::vetted::in_many_ranks;
@@ -28,9 +27,6 @@ pub fn selected(
 {
     let n = rows.len() / columns;
     let stride = (term as usize) * 64 + 64;
-    if n <= 16 {
-        return of_few_rows(table, columns, rows, n, term, group, answers);
-    }
     if n <= 64 {
         return in_one_block(table, columns, rows, n, stride, term, group, answers);
     }

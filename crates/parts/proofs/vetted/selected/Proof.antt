@@ -18,22 +18,22 @@ mul-stride c = search needs
 add-stride : tie.Need-add-stride
 add-stride c = search needs
 
-of-few-rows-requires : tie.Need-of-few-rows-requires
+in-one-block-requires : tie.Need-in-one-block-requires
 unfolding rowCount
-of-few-rows-requires c κs =
+in-one-block-requires c κs =
     let s = c .before .before .before .before in
-    (asked-rows (s .pre), c .before .if1 .taken, s .pre .long)
+    (asked-rows (s .pre), stride-for (s .pre .ofTerm), c .before .if1 .taken, s .pre .long)
 
 same-length : tie.Need-same-length
 same-length c = search needs
 
 returns : tie.Need-returns
 unfolding rowCount
-returns c = c .before .before .of-few-rows .ensures
+returns c = c .before .before .in-one-block .ensures
 
-in-one-block-requires : tie.Need-in-one-block-requires
+in-four-blocks-requires : tie.Need-in-four-blocks-requires
 unfolding rowCount
-in-one-block-requires c κs =
+in-four-blocks-requires c κs =
     let s = c .before .before .before .before .before in
     (asked-rows (s .pre), stride-for (s .pre .ofTerm), c .before .if2 .taken, s .pre .long)
 
@@ -42,33 +42,20 @@ same-length-2 c = search needs
 
 returns-2 : tie.Need-returns-2
 unfolding rowCount
-returns-2 c = c .before .before .in-one-block .ensures
+returns-2 c = c .before .before .in-four-blocks .ensures
 
-in-four-blocks-requires : tie.Need-in-four-blocks-requires
+in-blocks-requires : tie.Need-in-blocks-requires
 unfolding rowCount
-in-four-blocks-requires c κs =
-    let s = c .before .before .before .before .before .before in
-    (asked-rows (s .pre), stride-for (s .pre .ofTerm), c .before .if3 .taken, s .pre .long)
+in-blocks-requires c κs =
+    let s = c .before .before .before .before .before in
+    (asked-rows (s .pre), stride-for (s .pre .ofTerm), s .pre .long)
 
 same-length-3 : tie.Need-same-length-3
 same-length-3 c = search needs
 
 returns-3 : tie.Need-returns-3
 unfolding rowCount
-returns-3 c = c .before .before .in-four-blocks .ensures
-
-in-blocks-requires : tie.Need-in-blocks-requires
-unfolding rowCount
-in-blocks-requires c κs =
-    let s = c .before .before .before .before .before .before in
-    (asked-rows (s .pre), stride-for (s .pre .ofTerm), s .pre .long)
-
-same-length-4 : tie.Need-same-length-4
-same-length-4 c = search needs
-
-returns-4 : tie.Need-returns-4
-unfolding rowCount
-returns-4 c = c .before .before .in-blocks .ensures
+returns-3 c = c .before .before .in-blocks .ensures
 
 pub selected-spec : {M : Type 1} → statement M
 selected-spec =
@@ -77,15 +64,12 @@ selected-spec =
     div-n
     mul-stride
     add-stride
-    of-few-rows-requires
+    in-one-block-requires
     same-length
     returns
-    in-one-block-requires
+    in-four-blocks-requires
     same-length-2
     returns-2
-    in-four-blocks-requires
-    same-length-3
-    returns-3
     in-blocks-requires
-    same-length-4
-    returns-4)
+    same-length-3
+    returns-3)

@@ -1,2 +1,0 @@
--- The square of a base record's codes.
-pub mod Base

@@ -1,2 +1,0 @@
--- Keys that all differ.
-pub mod Differ

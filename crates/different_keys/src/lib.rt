@@ -1,2 +1,0 @@
-// For the direct engine: rows whose keys all differ are each alone in their groups.
-pub mod vetted;

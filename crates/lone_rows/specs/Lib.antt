@@ -1,2 +1,0 @@
--- Rows that are alone in their groups.
-pub mod Alone

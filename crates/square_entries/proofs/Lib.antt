@@ -1,2 +1,0 @@
--- The answers from the lists that the loops leave.
-pub mod Selects

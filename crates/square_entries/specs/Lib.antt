@@ -1,2 +1,0 @@
--- Which row beats which by the squares.
-pub mod Answers

@@ -1,3 +1,0 @@
--- The square of groups.
-pub mod Apart
-pub mod Groups

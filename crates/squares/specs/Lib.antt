@@ -1,2 +1,0 @@
--- The square of a term's codes.
-pub mod Square

@@ -1,3 +1,0 @@
--- What the loops over a square leave.
-pub mod Worse
-pub mod Loops
