@@ -37,6 +37,14 @@ impl Aim {
     }
 }
 
+/// With so few rows the engine by parts, which is for larger catalogues, has no aim.
+const FEW_ROWS: usize = 16;
+
+/// A few rows of 256 groups are nearly all alone, so that what a call vets and prepares is all its work: no aim.
+fn is_aim(line: &Line) -> bool {
+    line.rows > FEW_ROWS || !line.name.ends_with("256 groups")
+}
+
 pub fn print(all: &[Line]) {
     println!("### The aims\n");
     let of = |rows| all.iter().filter(move |line| line.rows == rows);
@@ -49,10 +57,12 @@ pub fn print(all: &[Line]) {
     Aim::new(words.to_string(), 5.0, by_parts)
         .print(&of(MOST_ROWS).filter(eight).collect::<Vec<_>>());
     for rows in SIZES {
-        let lines: Vec<_> = of(rows).collect();
+        let lines: Vec<_> = of(rows).filter(|line| is_aim(line)).collect();
         let words = |engine| format!("{engine} ahead of the peer, {} rows", whole(rows));
         Aim::new(words("Direct"), 1.0, |line| line.peer_to_direct).print(&lines);
-        Aim::new(words("By parts"), 1.0, |line| line.peer_to_by_parts).print(&lines);
+        if rows > FEW_ROWS {
+            Aim::new(words("By parts"), 1.0, |line| line.peer_to_by_parts).print(&lines);
+        }
     }
     println!();
 }

@@ -2,21 +2,16 @@
 use crate::ffi::Reply;
 use crate::{lent, Answers, Columns, Outcome, Refusal, Summary, MOST_ROWS};
 
-/// Up to this many rows [`Engine::Auto`] takes the engine by parts, which then weighs each row against each at once.
-pub const BY_PARTS_UP_TO: usize = 16;
-
-/// From this many rows on, [`Engine::Auto`] takes the engine by parts again; between the two, the direct one mostly takes
-/// less time.
+/// From this many rows on, [`Engine::Auto`] takes the engine by parts; with fewer, the direct one mostly takes less time.
 pub const BY_PARTS_FROM: usize = 128;
 
 /// How a query finds its answers. Every engine gives the same answers and the same refusals, so this is a choice about
 /// time only.
 ///
 /// ```
-/// use finialbasil::{Engine, Table, BY_PARTS_FROM, BY_PARTS_UP_TO};
+/// use finialbasil::{Engine, Table, BY_PARTS_FROM};
 ///
 /// assert_eq!(Engine::default(), Engine::Auto);
-/// assert_eq!(Engine::for_rows(BY_PARTS_UP_TO), Engine::ByParts);
 /// assert_eq!(Engine::for_rows(BY_PARTS_FROM - 1), Engine::Direct);
 /// assert_eq!(Engine::for_rows(BY_PARTS_FROM), Engine::ByParts);
 ///
@@ -35,16 +30,15 @@ pub enum Engine {
     Auto,
     /// Rows compared pair by pair.
     Direct,
-    /// From the answers of the term's parts, by blocks of rows; for the larger catalogues, and the smallest.
+    /// From the answers of the term's parts, by blocks of rows; for the larger catalogues.
     ByParts,
 }
 
 impl Engine {
-    /// The engine that is likely the faster one for so many rows: [`Engine::ByParts`] up to [`BY_PARTS_UP_TO`] and from
-    /// [`BY_PARTS_FROM`] on.
+    /// The engine that is likely the faster one for so many rows: [`Engine::ByParts`] from [`BY_PARTS_FROM`] on.
     #[must_use]
     pub const fn for_rows(rows: usize) -> Engine {
-        if BY_PARTS_UP_TO < rows && rows < BY_PARTS_FROM {
+        if rows < BY_PARTS_FROM {
             Engine::Direct
         } else {
             Engine::ByParts

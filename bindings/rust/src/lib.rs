@@ -59,9 +59,7 @@ mod refusal;
 mod replies;
 mod table;
 
-pub use calls::{
-    check, compare, perfect, query, query_into, Engine, BY_PARTS_FROM, BY_PARTS_UP_TO,
-};
+pub use calls::{check, compare, perfect, query, query_into, Engine, BY_PARTS_FROM};
 pub use refusal::{Reason, Refusal};
 pub use replies::{Answer, Answers, Columns, Outcome, Summary};
 pub use table::{Table, Term};

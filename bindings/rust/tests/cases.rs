@@ -2,7 +2,7 @@
 use finialbasil::{
     compare, perfect, query, query_into, Answer, Engine, Outcome, Refusal, Table, Term,
 };
-use finialbasil::{BY_PARTS_FROM, BY_PARTS_UP_TO, MOST_ROWS};
+use finialbasil::{BY_PARTS_FROM, MOST_ROWS};
 
 const ENGINES: [Engine; 3] = [Engine::Auto, Engine::Direct, Engine::ByParts];
 
@@ -181,11 +181,7 @@ fn rows_to_the_limit() -> Result<(), Refusal> {
     let own: Vec<u16> = (0..1024).collect();
     answers(&table, 1, &falling, top, 1, &own);
     // Around the change of the engine.
-    let around = [BY_PARTS_UP_TO, BY_PARTS_UP_TO + 1, BY_PARTS_FROM - 1];
-    for rows in [1, BY_PARTS_FROM, BY_PARTS_FROM + 1]
-        .into_iter()
-        .chain(around)
-    {
+    for rows in [1, BY_PARTS_FROM - 1, BY_PARTS_FROM, BY_PARTS_FROM + 1] {
         let last = rows as u16 - 1;
         answers(&table, 1, &falling[..rows], top, 0, &vec![last; rows]);
     }
@@ -261,9 +257,7 @@ fn perfect_rows() -> Result<(), Refusal> {
 #[test]
 fn the_engine_for_so_many_rows() {
     assert_eq!(Engine::default(), Engine::Auto);
-    assert_eq!(Engine::for_rows(0), Engine::ByParts);
-    assert_eq!(Engine::for_rows(BY_PARTS_UP_TO), Engine::ByParts);
-    assert_eq!(Engine::for_rows(BY_PARTS_UP_TO + 1), Engine::Direct);
+    assert_eq!(Engine::for_rows(0), Engine::Direct);
     assert_eq!(Engine::for_rows(BY_PARTS_FROM - 1), Engine::Direct);
     assert_eq!(Engine::for_rows(BY_PARTS_FROM), Engine::ByParts);
     assert_eq!(Engine::for_rows(MOST_ROWS), Engine::ByParts);

@@ -15,14 +15,14 @@ use Rattle.model.specs.Query.{rowAt}
 use Rattle.model.specs.Compare.{outcome}
 use Rattle.laws.specs.Bools.{on-or-off}
 use Rattle.laws.specs.Codes.{code, code-below}
-use Rattle.values.specs.Prepared.{NextTerm}
-use Rattle.exit_masks.specs.Told.{bits}
-use Rattle.exit_parts.specs.Exits.{Exits, maskAt}
-use Rattle.exits.specs.Known.{Known}
-use Rattle.exits.proofs.Known.{known-none, known-silent, known-more, known-stop, known-all, known-on}
+use Rattle.terms.specs.Prepared.{NextTerm}
+use Rattle.plan.specs.Told.{bits}
+use Rattle.plan.specs.Exits.{Exits, maskAt}
+use Rattle.plan.specs.Known.{Known}
+use Rattle.plan.proofs.Known.{known-none, known-silent, known-more, known-stop, known-all, known-on}
 use Rattle.lanes.specs.Wrote.{Wrote}
-use Rattle.known.specs.Lanes.{startLane, bitsLane, Ended}
-use Rattle.record_codes.specs.Ready.{Coded}
+use Rattle.lanes.specs.KnownLanes.{startLane, bitsLane, Ended}
+use Rattle.blocks.specs.Ready.{Coded}
 use Rattle.blocks.specs.Blocks.{KnownLanes, RecordTold, AskedCoded}
 
 module _ {table : List ℕ} {term : ℕ} {exits : List ℕ} (e : Exits table term exits) {columns : ℕ} {rows : List ℤ} {n i b : ℕ}

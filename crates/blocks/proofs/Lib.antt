@@ -1,2 +1,6 @@
--- Laws that the proofs share.
+pub mod Lanes
+pub mod OfBase
+pub mod OfCompound
 pub mod Known
+pub mod Grouping
+pub mod RivalsLaws

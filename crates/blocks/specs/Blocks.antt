@@ -8,8 +8,8 @@ use lib.ListN.{getD}
 use Rattle.model.specs.Term.{termAt}
 use Rattle.model.specs.Query.{rowAt}
 use Rattle.laws.specs.Codes.{code}
-use Rattle.exits.specs.Known.{Known}
-use Rattle.known.specs.Lanes.{Told, Ended}
+use Rattle.plan.specs.Known.{Known}
+use Rattle.lanes.specs.KnownLanes.{Told, Ended}
 
 -- What is known of the asked term's code from the records below k, in each lane that is lit.
 pub record KnownLanes (table : List ℕ) (term : ℕ) (exits : List ℕ) (columns : ℕ) (rows : List ℤ) (n i b k : ℕ)

@@ -1,2 +1,8 @@
--- What is known of a block, and the codes of a row and a block.
+pub mod Base
+pub mod Ready
+pub mod Coded
 pub mod Blocks
+pub mod Alive
+pub mod Rivals
+pub mod Hits
+pub mod Meets

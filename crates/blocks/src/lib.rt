@@ -1,2 +1,4 @@
-// The codes of a row against the 64 rows of a block, record by record.
+// A row against a block of 64 rows: the codes under each record, from the ranks or from the parts' codes.
+mod base;
+mod records;
 pub mod vetted;

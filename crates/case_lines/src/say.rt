@@ -11,10 +11,10 @@ pub fn words(lines: &[u8], at: usize) -> usize {
 
 // A refusal: its number, its word, and the record if it has a place.
 pub fn refused(why: Refusal) {
-    let number = refusals::number(why);
+    let number = table::refusals::number(why);
     numbered(b"refused :", 0, number as u64);
     word(number);
-    placed(refusals::place(why));
+    placed(table::refusals::place(why));
 }
 
 // The refusal's word after a space, eight bytes to a number.

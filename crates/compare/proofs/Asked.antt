@@ -11,7 +11,7 @@ use Rattle.model.specs.Better.{Row}
 use Rattle.model.specs.Compare.{failsRow, termVerdict}
 use Rattle.laws.specs.Members.{or-off}
 use Rattle.laws.specs.Taken.{term-gives}
-use Rattle.outcomes.specs.Rows.{Asked}
+use Rattle.compare.specs.Rows.{Asked}
 
 -- What the vetting shows: the number given is a term record of an accepted table, and both rows fit.
 pub asked-of : (table : List ℕ) (columns term : ℕ) (x y : Row)

@@ -1,1 +1,3 @@
+pub mod Coded
+pub mod OutcomesCoded
 pub mod Asked

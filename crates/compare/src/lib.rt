@@ -1,10 +1,12 @@
 // Two rows compared under a term (document 01, "Compare").
-mod vetted;
+mod compared;
+mod outcomes;
+pub mod vetted;
 
-use asked::vetted::term_verdict;
+use crate::compared::compared;
 use model::CompareReply;
 use model::Verdict;
-use vetted::compared;
+use table::vetted::asked::term_verdict;
 ghost use mathlib.Core.Path.{_≡_};
 ghost use Rattle.model.specs.Compare.{compareReply};
 

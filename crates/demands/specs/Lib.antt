@@ -1,5 +1,3 @@
--- What the third signed sentence is said of, in document 01's words; its theorems, one file for each; and an instance of
--- every theorem.
 pub mod Strictly
 pub mod Asked
 pub mod Ordered
@@ -13,3 +11,6 @@ pub mod Unread
 pub mod Cascade
 pub mod Instances
 pub mod InstancesOfRows
+pub mod Given
+pub mod Agreement
+pub mod Witness

@@ -2,6 +2,10 @@
 // about the definitions that the calls' contracts cite, with an empty body; crates `compare_demands` and `query_demands` say
 // it of the calls themselves. "Keeps" is that Query, by either engine, gives row i the entry i: `keeps` reads `queryBuffer`,
 // which is what both engines write. a, b and c are answer buffers.
+mod agreement;
+pub mod engines;
+pub mod strictly;
+
 ghost use mathlib.Core.Path.{_≡_};
 ghost use mathlib.Core.Logic.{_⊎_, _↔_};
 ghost use mathlib.Core.Bool.{true, false, _&&_};

@@ -1,9 +1,9 @@
 // The direct engine: rows are compared pair by pair, by ranks that are found once per query; a row that is gone is not
 // compared again, and a dropped row's witness comes from the list of kept rows.
-use pair_rooms::vetted::in_1024_ranks;
-use pair_rooms::vetted::in_5120_ranks;
-use pair_rooms::vetted::in_8192_ranks;
-use pair_rooms::vetted::in_many_ranks;
+use crate::rooms::in_1024_ranks;
+use crate::rooms::in_5120_ranks;
+use crate::rooms::in_8192_ranks;
+use crate::rooms::in_many_ranks;
 ghost use Prim.Native.Nat.{_≤_};
 ghost use lib.ListN.{length};
 ghost use Rattle.model.specs.Term.{termAt};

@@ -1,18 +1,20 @@
 // The C interface (bindings/c/finialbasil.h): one export for each public call, whose reply `c_replies` lays out. No export has
 // a `requires`.
+mod c_replies;
+
 ghost use mathlib.Core.Path.{_≡_};
 ghost use Rattle.model.specs.Replies.{listedCheck, listedCompare, listedPerfect, listedQuery};
 ghost use Rattle.model.specs.Check.{checkReply};
 ghost use Rattle.model.specs.Compare.{compareReply};
 ghost use Rattle.model.specs.Perfect.{perfectReply};
 ghost use Rattle.model.specs.Query.{queryReply, queryBuffer};
-ghost use Rattle.c_replies.specs.Layout.{checkFields, replyFields};
-use c_replies::FnbCheckReply;
-use c_replies::FnbReply;
-use c_replies::check_fields;
-use c_replies::compare_fields;
-use c_replies::perfect_fields;
-use c_replies::query_fields;
+ghost use Rattle.finialbasil.specs.Layout.{checkFields, replyFields};
+use crate::c_replies::FnbCheckReply;
+use crate::c_replies::FnbReply;
+use crate::c_replies::check_fields;
+use crate::c_replies::compare_fields;
+use crate::c_replies::perfect_fields;
+use crate::c_replies::query_fields;
 
 // Check: table and column count.
 #[no_mangle]

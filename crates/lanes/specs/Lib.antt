@@ -1,4 +1,8 @@
--- What a loop over lanes writes.
 pub mod Wrote
 pub mod Writes
 pub mod Lanes
+pub mod Lit
+pub mod Equal
+pub mod Marks
+pub mod Compound
+pub mod KnownLanes

@@ -1,2 +1,2 @@
-// Codes of a base record, of one row against the rows of a block or a square.
+// Loops over the 64 lanes of a block.
 pub mod vetted;

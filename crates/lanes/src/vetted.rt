@@ -1,5 +1,7 @@
-// Loops over lanes: the 64 of a block, or the rows of a square. They are no public calls: each asks that its buffers have
-// room. Codes: same 0, first better 1, second better 2, unranked 3. The 64 codes of a row and a wish are the wish's answer
-// for that row, cut to the block (the report's Definition 17b): the lanes with 2 are the rows that are better, those with 1
-// the rows that are worse, and those with 0 the equal ones.
+// Inner functions that other crates call. They are no public calls: each asks what was shown or prepared before.
 pub mod base;
+pub mod compound;
+pub mod equal;
+pub mod known;
+pub mod lit;
+pub mod marks;

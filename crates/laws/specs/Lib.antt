@@ -1,14 +1,9 @@
--- Theorems about the definitions of `model`. Those that a reader should read stand in src/ of `theorems`.
-
--- Tests and searches.
 pub mod Bools
 pub mod Members
 pub mod Search
 pub mod Fill
--- Order over any relation.
 pub mod Order
 pub mod Joins
--- Base terms.
 pub mod Values
 pub mod Shift
 pub mod Distance
@@ -17,21 +12,17 @@ pub mod Sound
 pub mod Roles
 pub mod Ranks
 pub mod Explicit
--- Terms.
 pub mod Masks
 pub mod Columns
 pub mod Ties
 pub mod Strict
--- The report's propositions.
 pub mod Equivalence
 pub mod Report
 pub mod Decomposition
--- Two rows compared.
 pub mod Outcome
 pub mod Compared
 pub mod Codes
 pub mod ValueCodes
--- Rows of a set.
 pub mod Select
 pub mod Answers
 pub mod Placing
@@ -43,7 +34,6 @@ pub mod Cascade
 pub mod Sets
 pub mod ByParts
 pub mod Query
--- Perfect.
 pub mod Perfect
 pub mod Fresh
 pub mod Probes
@@ -58,7 +48,6 @@ pub mod ExtremesOfPosNeg
 pub mod ExtremesOfPosPos
 pub mod ExtremesOfEdges
 pub mod ExtremesOfBase
--- What acceptance gives.
 pub mod Terms
 pub mod Runs
 pub mod Records
@@ -75,7 +64,6 @@ pub mod AcceptedMarks
 pub mod Taken
 pub mod Replied
 pub mod Answered
--- Placings.
 pub mod Agree
 pub mod Replaced
 pub mod Rejudged
@@ -83,9 +71,16 @@ pub mod Rewritten
 pub mod Placings
 pub mod TwoParts
 pub mod Among
--- What a reply lists.
 pub mod Listed
--- The theorems at work.
 pub mod Instances
 pub mod InstancesOfRows
 pub mod InstancesOfDemand
+pub mod Elimination
+pub mod Cases
+pub mod Rounds
+pub mod Meetings
+pub mod Beaten
+pub mod Beats
+pub mod Firsts
+pub mod Gone
+pub mod Named

@@ -1,9 +1,9 @@
 // The engine by parts: a wish's answers come from those of its parts. Ranks of every base record beneath the asked term once
 // per query; then for a row and a block of 64 rows one code per row and record, compounds from their parts' codes; rows that
 // are beaten are gone; then the kept rows name the rows that they beat.
-use rank_rooms::vetted::in_1024_ranks;
-use rank_rooms::vetted::in_8192_ranks;
-use rank_rooms::vetted::in_many_ranks;
+use crate::rooms::in_1024_ranks;
+use crate::rooms::in_8192_ranks;
+use crate::rooms::in_many_ranks;
 ghost use Prim.Native.Nat.{_≤_};
 ghost use lib.ListN.{length};
 ghost use Rattle.model.specs.Term.{termAt};

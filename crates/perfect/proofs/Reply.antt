@@ -11,7 +11,7 @@ use Rattle.model.specs.Compare.{failsRow, termVerdict}
 use Rattle.model.specs.Perfect.{perfect, markOf, perfectReply}
 use Rattle.laws.specs.Perfect.{perfect-all}
 use Rattle.laws.specs.Taken.{term-gives}
-use Rattle.marks.specs.Marks.{Asked}
+use Rattle.perfect.specs.Marks.{Asked}
 use Rattle.perfect.specs.Says.{Says}
 
 isYes : PerfectReply → Bool

@@ -1,2 +1,3 @@
--- What a reply of Perfect says.
+pub mod Base
+pub mod Marks
 pub mod Says

@@ -1,9 +1,12 @@
 // The perfect-match mark of a row (document 01, "Perfect").
-use asked::vetted::term_verdict;
-use marks::vetted::is_perfect;
+mod extremes;
+mod marks;
+
+use crate::marks::is_perfect;
 use model::Mark;
 use model::PerfectReply;
 use model::Verdict;
+use table::vetted::asked::term_verdict;
 ghost use mathlib.Core.Path.{_≡_};
 ghost use Rattle.model.specs.Perfect.{markOf, perfectReply};
 ghost use Rattle.perfect.specs.Says.{Says};

@@ -1,7 +1,9 @@
 // What `pick` reads and writes (document 01, "The pick program"): its two files, and the text that `pick_text` makes of them.
+mod read_files;
+
+use crate::read_files::read_file;
 use libc::STDOUT_FILENO;
-use lines::MOST_TEXT;
-use read_files::read_file;
+use pick_text::MOST_TEXT;
 
 // Prints the text for two files by their paths. Each buffer has room for one byte more than is taken, so that a longer file
 // is refused: `first_bytes_decide` of `pick_text` says that no more need be read.

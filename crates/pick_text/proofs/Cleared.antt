@@ -5,7 +5,7 @@ use Prim.Native.Nat.{ℕ, _-_, _≤_}
 use native.Mathlib.Omega.{arith}
 use lib.ListN.{length, take, replicate, length-append}
 use lib.Seq.{length-take-le}
-use Rattle.fields.specs.Printed.{Printed}
+use Rattle.pick_text.specs.Printed.{Printed}
 
 -- The text stands where it stood, and the rest is zeros.
 pub cleared : (text before after : List ℕ) (r : ℕ) → Printed text before r

@@ -1,3 +1,10 @@
+pub mod Joins
+pub mod Texts
+pub mod RowLinesTexts
+pub mod LinesTexts
+pub mod Numbers
+pub mod Answered
+pub mod ZerosLaws
 pub mod Refused
 pub mod Files
 pub mod Cleared

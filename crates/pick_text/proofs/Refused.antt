@@ -9,7 +9,7 @@ use Rattle.model.specs.declared.{Refusal.Refusal, Verdict.Verdict, Summary.Summ
 use Rattle.model.specs.Replies.{refusals, numbered, refusal}
 use Rattle.model.specs.Check.{refuseIf, _then_, byVerdict, tableVerdict, summary, checkReply}
 use Rattle.model.specs.Pick.{refusedText, failsFile, pickVerdict, pickBeats, answerText, pickText}
-use Rattle.answer_text.proofs.Answered.{passed}
+use Rattle.pick_text.proofs.Answered.{passed}
 
 -- A refused table.
 pub table-refused : (prefs rows : List ℕ) (why : Refusal) → checkReply prefs 8 ≡ CheckReply.Refused why

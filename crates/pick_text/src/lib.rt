@@ -1,14 +1,22 @@
 // All that `pick` prints, as a function of the bytes of its two files (document 01, "The pick program").
+mod answer_text;
+mod fields;
+mod lines;
+mod row_file;
+mod row_lines;
 mod text;
+mod zeros;
 
-use lines::MOST_TEXT;
+use crate::zeros::clear;
 use text::put_text;
-use zeros::vetted::clear;
 ghost use mathlib.Core.Path.{_≡_};
 ghost use mathlib.Core.List.{List, _++_};
 ghost use Prim.Native.Nat.{ℕ, _-_, _≤_};
 ghost use lib.ListN.{length, take, replicate};
 ghost use Rattle.model.specs.Pick.{pickText};
+
+// The most bytes that a text has: a line of at most 18, and 1,024 lines of at most 15.
+pub const MOST_TEXT: usize = 15378;
 
 // The text for `prefs.bin`, a table, and `rows.bin`, whatever bytes they have; a missing file is one of no bytes. Returns
 // how many bytes the text has. It stands at the start of `out`, and zeros after it.

@@ -1,18 +1,18 @@
 // The text put at the start of a buffer: the table's refusals, then that of `rows.bin`, then the answers.
-use answer_text::vetted::put_answered;
-use lines::MOST_TEXT;
-use lines::vetted::put_refused;
+use crate::MOST_TEXT;
+use crate::answer_text::put_answered;
+use crate::lines::put_refused;
+use crate::row_file::fails_file;
 use model::CheckReply;
 use model::MOST_COLUMNS;
 use model::Refusal;
 use model::Summary;
-use row_file::vetted::fails_file;
 use table::check;
 ghost use mathlib.Core.Path.{_≡_};
 ghost use Rattle.model.specs.declared.{CheckReply.CheckReply as Checked};
 ghost use Rattle.model.specs.Check.{checkReply};
 ghost use Rattle.model.specs.Pick.{pickText};
-ghost use Rattle.fields.specs.Printed.{Printed};
+ghost use Rattle.pick_text.specs.Printed.{Printed};
 
 // Puts the text at the start of `out`.
 pub fn put_text(prefs: &[u8], rows: &[u8], out: &mut [u8; MOST_TEXT]) -> usize

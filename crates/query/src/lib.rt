@@ -1,7 +1,7 @@
 // The rows that a term keeps (document 01, "Query"), by two engines behind one contract.
-use asked::vetted::query::query_verdict;
 use model::QueryReply;
 use model::Verdict;
+use table::vetted::asked::query::query_verdict;
 ghost use mathlib.Core.Path.{_≡_};
 ghost use Rattle.model.specs.Query.{queryReply, queryBuffer};
 

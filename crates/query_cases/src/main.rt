@@ -3,16 +3,16 @@
 // what is said here, the group byte (`group`, else 0; several with `to`, which must all give one answer), how many entries
 // the buffer has (`buffer`, else two more than rows) and the table's length in bytes (`table`, else that of the records).
 // The rows follow (`query_lines`), then the records. An answer is the kept count or the refusal, and the whole buffer.
+use case_lines::query_answers::answer;
+use case_lines::query_answers::apart;
+use case_lines::query_answers::clear;
+use case_lines::query_lines::head::after;
+use case_lines::query_lines::head::option;
+use case_lines::query_lines::head::two_more;
+use case_lines::query_lines::rows;
 use case_lines::read;
 use case_lines::say;
 use model::QueryReply;
-use query_answers::answer;
-use query_answers::apart;
-use query_answers::clear;
-use query_lines::head::after;
-use query_lines::head::option;
-use query_lines::head::two_more;
-use query_lines::rows;
 
 fn main() {
     let mut text = buffer();

@@ -15,9 +15,9 @@ use Rattle.model.specs.Query.{rowAt}
 use Rattle.laws.specs.Search.{lt-suc-cases}
 use Rattle.laws.specs.AcceptedTable.{accepted-table}
 use Rattle.laws.specs.AcceptedKinds.{accepted-base}
-use Rattle.cells.specs.Places.{place-apart}
-use Rattle.cells.specs.Stretch.{Stretch}
-use Rattle.rank.specs.Rank.{RankAt}
+use Rattle.rows.specs.Places.{place-apart}
+use Rattle.rows.specs.Stretch.{Stretch}
+use Rattle.ranks.specs.Rank.{RankAt}
 use Rattle.ranks.specs.Ranked.{Ranked, RecordRankable, ColumnRankable}
 
 -- What a record says of a rank, and nothing where it is no base record.

@@ -1,1 +1,5 @@
+pub mod Ranks
+pub mod Stored
+pub mod Named
+pub mod ClassesLaws
 pub mod Filled

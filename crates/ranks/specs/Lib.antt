@@ -1,2 +1,6 @@
--- All ranks by block.
+pub mod Rank
+pub mod ByRank
+pub mod Put
+pub mod Made
+pub mod Copied
 pub mod Ranked

@@ -14,9 +14,9 @@ use Rattle.model.specs.Query.{rowAt}
 use Rattle.laws.specs.Accepted.{Accepted}
 use Rattle.laws.specs.Taken.{TakenTerm}
 use Rattle.terms.specs.Run.{Values}
-use Rattle.values.specs.Prepared.{Numbers, RunEnds}
-use Rattle.cells.specs.Values.{Room}
-use Rattle.rank.specs.Rank.{RankAt}
+use Rattle.terms.specs.Prepared.{Numbers, RunEnds}
+use Rattle.rows.specs.Values.{Room}
+use Rattle.ranks.specs.Rank.{RankAt}
 
 -- The marked base records below k have their ranks.
 pub record Ranked (table ends : List ℕ) (marks : List Bool) (columns : ℕ) (rows : List ℤ) (n stride k : ℕ)

@@ -1,2 +1,7 @@
-// The ranks of rows under base records, once per query.
+// The rank of every row under every base term, once per query: the lower is better.
+mod classes;
+mod distance;
+mod distances;
+mod stretches;
+mod values;
 pub mod vetted;

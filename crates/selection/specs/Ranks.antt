@@ -7,9 +7,9 @@ use native.Mathlib.Nat.{mul-le-mul-right, suc-mul}
 use native.Mathlib.Omega.{arith}
 use lib.IntN.{ℤ}
 use Rattle.laws.specs.Taken.{TakenTerm}
-use Rattle.values.specs.Prepared.{Numbers, RunEnds}
-use Rattle.cells.specs.Values.{Room}
-use Rattle.beneath.specs.Beneath.{Marked}
+use Rattle.terms.specs.Prepared.{Numbers, RunEnds}
+use Rattle.rows.specs.Values.{Room}
+use Rattle.plan.specs.Beneath.{Marked}
 use Rattle.ranks.specs.Ranked.{Rankable}
 use Rattle.selection.specs.Selected.{AskedRows, StrideFor}
 use Rattle.selection.specs.Taken.{term-below}

@@ -17,7 +17,7 @@ use Rattle.laws.specs.Rows.{beats-strict}
 use Rattle.laws.specs.Strict.{ordered}
 use Rattle.laws.specs.AcceptedTable.{accepted-table}
 use Rattle.laws.specs.Taken.{TakenTerm, Taken, taken-sound}
-use Rattle.values.specs.Prepared.{Vetted}
+use Rattle.terms.specs.Prepared.{Vetted}
 use Rattle.selection.specs.Selected.{AskedRows}
 
 -- The table is vetted; there are at most 8 columns, and the term is one of at most 128 records.

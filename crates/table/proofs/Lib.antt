@@ -1,1 +1,12 @@
-pub mod Verdict
+pub mod Constant
+pub mod FillerRows
+pub mod Paths
+pub mod PassingLaws
+pub mod Carried
+pub mod StepsLaws
+pub mod Fielded
+pub mod ApartLaws
+pub mod RunsLaws
+pub mod JudgingLaws
+pub mod VerdictLaws
+pub mod Verdicts

@@ -1,2 +1,5 @@
--- What the functions of the crate ask of a table.
+pub mod Filler
+pub mod Rules
+pub mod Passing
+pub mod Judging
 pub mod Verdict

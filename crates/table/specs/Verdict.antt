@@ -8,7 +8,7 @@ use Rattle.model.specs.declared.Verdict.{Verdict}
 use Rattle.model.specs.Record.{recordCount, recordAt, isTerm, nearestTerm}
 use Rattle.model.specs.Replies.{refusal}
 use Rattle.model.specs.Check.{refuseIf, _then_, eachBelow, judge, isPart, topOf}
-use Rattle.columns.specs.Columns.{Narrow}
+use Rattle.terms.specs.Columns.{Narrow}
 
 -- 14 LOOSE, of the first n records.
 unfoldable pub looseIn : List ℕ → ℕ → ℕ → Bool

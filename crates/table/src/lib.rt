@@ -1,10 +1,20 @@
 // The table check of document 01: the bytes of a table become what the table is, or a refusal with its place.
+mod apart;
+mod chains;
+mod filler;
+mod judging;
+mod passing;
+pub mod refusals;
+mod rules;
+mod runs;
+mod steps;
+mod verdict;
 pub mod vetted;
 
+use crate::verdict::summary_of;
+use crate::verdict::table_verdict;
 use model::CheckReply;
 use model::Verdict;
-use vetted::verdict::summary_of;
-use vetted::verdict::table_verdict;
 ghost use mathlib.Core.Path.{_≡_};
 ghost use Rattle.model.specs.Check.{checkReply};
 

@@ -1,1 +1,9 @@
 pub mod Cells
+pub mod Masks
+pub mod MaskLoop
+pub mod Wide
+pub mod Far
+pub mod Ends
+pub mod RunEnd
+pub mod Rows
+pub mod PastEnd

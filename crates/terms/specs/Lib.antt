@@ -1,3 +1,8 @@
--- Handy forms of the model's definitions, as the code computes them. Each is proved equal to the literal one in proofs/.
 pub mod Run
 pub mod Closure
+pub mod Columns
+pub mod Prepared
+pub mod Edges
+pub mod Places
+pub mod Leads
+pub mod Coded

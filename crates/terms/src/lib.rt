@@ -1,3 +1,4 @@
-// What the value records of a term say together: its run of values, and what the edges of the run reach. All of it rests on
-// records that the check has judged, so that it stands in `vetted`.
+// What the records of a term say together: the columns it reads, its values and their classes, distances, what edges reach.
+pub mod codes;
+pub mod distances;
 pub mod vetted;

@@ -1,2 +1,7 @@
-// Inner functions that other crates call. They are no public calls: each asks what the check has shown before.
+// Inner functions that other crates call. They are no public calls: each asks what was shown or prepared before.
+pub mod classes;
 pub mod closure;
+pub mod columns;
+pub mod places;
+pub mod prepared;
+pub mod values;

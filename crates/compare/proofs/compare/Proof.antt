@@ -7,7 +7,7 @@ use borrow.Author.Needs.{needs}
 use Rattle.model.specs.declared.Verdict.{Verdict}
 use Rattle.model.specs.Compare.{failsRow, termVerdict, compareReply}
 use Rattle.laws.specs.Taken.{term-gives}
-use Rattle.outcomes.proofs.Coded.{term-below}
+use Rattle.compare.proofs.OutcomesCoded.{term-below}
 use Rattle.compare.proofs.Asked.{asked-of}
 use Rattle.compare.proofs.compare.Statement.{statement}
 use Rattle.compare.proofs.compare.Tie as tie

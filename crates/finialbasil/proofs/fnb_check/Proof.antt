@@ -2,7 +2,7 @@
 use borrow.Author.Needs.{needs}
 use mathlib.Core.Path.{_∙_, ap}
 use Rattle.model.specs.Replies.{listedCheck}
-use Rattle.c_replies.specs.Layout.{checkFields}
+use Rattle.finialbasil.specs.Layout.{checkFields}
 use Rattle.finialbasil.proofs.fnb_check.Statement.{statement}
 use Rattle.finialbasil.proofs.fnb_check.Tie as tie
 

@@ -2,7 +2,7 @@
 use borrow.Author.Needs.{needs}
 use mathlib.Core.Path.{_∙_, ap}
 use Rattle.model.specs.Replies.{listedQuery}
-use Rattle.c_replies.specs.Layout.{replyFields}
+use Rattle.finialbasil.specs.Layout.{replyFields}
 use Rattle.finialbasil.proofs.fnb_query_by_parts.Statement.{statement}
 use Rattle.finialbasil.proofs.fnb_query_by_parts.Tie as tie
 

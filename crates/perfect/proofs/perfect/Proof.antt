@@ -5,8 +5,8 @@ use denote.Ref.{now}
 use borrow.Author.Needs.{needs}
 use Rattle.model.specs.Compare.{failsRow}
 use Rattle.model.specs.Perfect.{perfectReply}
-use Rattle.marks.specs.Marks.{Asked}
-use Rattle.marks.proofs.Marks.{asked-few}
+use Rattle.perfect.specs.Marks.{Asked}
+use Rattle.perfect.proofs.MarksLaws.{asked-few}
 use Rattle.perfect.proofs.Reply.{says, asked}
 use Rattle.perfect.proofs.perfect.Statement.{statement}
 use Rattle.perfect.proofs.perfect.Tie as tie

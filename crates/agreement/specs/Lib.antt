@@ -1,4 +1,0 @@
--- What the tests of replies and answers say.
-pub mod Given
-pub mod Agreement
-pub mod Witness

@@ -1,2 +1,0 @@
--- The codes of a row and a block under a base term.
-pub mod Base

@@ -1,2 +1,0 @@
-// Two values compared under a base term (document 01, "Better, term by term").
-pub mod vetted;

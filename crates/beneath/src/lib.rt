@@ -1,2 +1,0 @@
-// The records beneath a term.
-pub mod vetted;

@@ -1,2 +1,0 @@
-// A row meets the rows of a block.
-pub mod vetted;

@@ -1,2 +1,0 @@
-// A kept row names the rows of a block that it beats.
-pub mod vetted;

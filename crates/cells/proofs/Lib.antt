@@ -1,2 +1,0 @@
--- Cells by block as loops fill them in.
-pub mod Filled

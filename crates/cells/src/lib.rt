@@ -1,2 +1,0 @@
-// The cells of rows, block by block.
-pub mod vetted;

@@ -1,2 +1,0 @@
--- Entries written in a row as a stretch.
-pub mod Copied

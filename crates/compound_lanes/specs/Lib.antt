@@ -1,2 +1,0 @@
--- What a loop over the lanes of a compound writes.
-pub mod Compound

@@ -1,2 +1,0 @@
-// The codes of a compound for the rows of a block or a square.
-pub mod vetted;

@@ -1,0 +1,45 @@
+-- The witness of a dropped row, as a test of the answers (the second and the third signed sentence): its entry is a row that
+-- holds its own number, is in its group and is first better in Compare's reply.
+use mathlib.Core.Path.{_≡_}
+use mathlib.Core.Bool.{Bool, false, not, _&&_, _||_}
+use mathlib.Core.List.{List}
+use Prim.Native.Nat.{ℕ, _*_, _≤_}
+use lib.Dec.{ltb, eqb}
+use lib.IntN.{ℤ}
+use lib.ListN.{length, getD}
+use Rattle.model.specs.declared.{QueryReply.QueryReply}
+use Rattle.model.specs.Search.{anyBelow}
+use Rattle.model.specs.Better.{equalIn}
+use Rattle.model.specs.Compare.{compareReply}
+use Rattle.model.specs.Query.{rowAt}
+use Rattle.demands.specs.Given.{numberGiven}
+
+-- n rows of 1 to 8 columns, and an entry for each.
+pub record Answers (columns : ℕ) (rows : List ℤ) (n : ℕ) (answers : List ℕ) : Type 0 where
+  pub some : 1 ≤ columns
+  pub few : columns ≤ 8
+  pub run : length rows ≡ n * columns
+  pub most : n ≤ 1024
+  pub long : n ≤ length answers
+
+-- Row e holds its own number, is in row i's group, and is first better.
+unfoldable pub isWitness : List ℕ → ℕ → List ℤ → ℕ → ℕ → List ℕ → ℕ → ℕ → Bool
+isWitness table columns rows term group answers i e =
+    eqb (getD answers e 0) e
+    && equalIn group (rowAt columns rows i) (rowAt columns rows e)
+    && eqb (numberGiven (compareReply table columns term (rowAt columns rows e) (rowAt columns rows i))) 1
+
+-- Row i is kept, or its entry is a row and its witness.
+unfoldable pub witnessed : List ℕ → ℕ → List ℤ → ℕ → ℕ → ℕ → List ℕ → ℕ → Bool
+witnessed table columns rows n term group answers i =
+    let e = getD answers i 0 in eqb e i || (ltb e n && isWitness table columns rows term group answers i e)
+
+-- So is every row.
+unfoldable pub allWitnessed : List ℕ → ℕ → List ℤ → ℕ → ℕ → ℕ → List ℕ → Bool
+allWitnessed table columns rows n term group answers =
+    not (anyBelow n (λ i. not (witnessed table columns rows n term group answers i)))
+
+-- What is so where Query refused nothing; false where it refused.
+abbrev pub whereKept : QueryReply → Bool → Bool
+whereKept (QueryReply.Kept total) so = so
+whereKept (QueryReply.Refused why) so = false

@@ -1,0 +1,4 @@
+pub mod Buffers
+pub mod Kept
+pub mod Listing
+pub mod Rooms

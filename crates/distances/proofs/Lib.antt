@@ -1,2 +1,0 @@
-pub mod Wide
-pub mod Far

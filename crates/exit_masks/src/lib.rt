@@ -1,2 +1,0 @@
-// What the outcome of a record tells of the asked term's.
-pub mod vetted;

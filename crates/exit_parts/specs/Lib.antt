@@ -1,2 +1,0 @@
--- The masks of the records beneath an asked term.
-pub mod Exits

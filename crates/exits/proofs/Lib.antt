@@ -1,2 +1,0 @@
--- What is known from what the masks tell.
-pub mod Known

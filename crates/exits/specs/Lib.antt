@@ -1,2 +1,0 @@
--- What is known of the asked term from the outcomes of records.
-pub mod Known

@@ -1,2 +1,0 @@
--- The mark of a base term.
-pub mod Base

@@ -1,2 +1,0 @@
--- What the direct engine compares.
-pub mod Pairs

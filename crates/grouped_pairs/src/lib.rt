@@ -1,2 +1,0 @@
-// Two rows of a run compared, if they are in one group.
-pub mod vetted;

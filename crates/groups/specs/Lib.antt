@@ -1,2 +1,0 @@
--- Two rows in one group, by the columns that they have.
-pub mod Group

@@ -1,3 +1,0 @@
--- The list of kept rows, and its laws.
-pub mod Kept
-pub mod Listing

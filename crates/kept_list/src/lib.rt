@@ -1,2 +1,0 @@
-// The list of the kept rows.
-pub mod vetted;

@@ -1,2 +1,0 @@
--- A number raised to a natural one.
-pub mod Raised

@@ -1,2 +1,0 @@
--- The key of a row.
-pub mod Keys

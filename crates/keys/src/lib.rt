@@ -1,2 +1,0 @@
-// Keys that tell the groups of rows apart.
-pub mod vetted;

@@ -1,2 +1,0 @@
--- What is marked of the rows of a block.
-pub mod Marks

@@ -1,2 +1,0 @@
-// What becomes of the rows of a block that a row beats.
-pub mod vetted;

@@ -1,2 +1,0 @@
--- Which lanes of a block are lit.
-pub mod Lit

@@ -1,2 +1,0 @@
-// Which of the 64 lanes of a block are lit.
-pub mod vetted;

@@ -1,2 +1,0 @@
--- Which rows of a block count for a row.
-pub mod Alive

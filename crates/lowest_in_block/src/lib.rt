@@ -1,2 +1,0 @@
-// The lowest kept row of a block that beats a row.
-pub mod vetted;

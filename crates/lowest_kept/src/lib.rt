@@ -1,2 +1,0 @@
-// Which row is named for a row that is gone, found for one such row after another.
-pub mod vetted;

@@ -1,2 +1,0 @@
--- The marks of a table's terms.
-pub mod Marks

@@ -1,2 +1,0 @@
--- That the entries stand once they are put.
-pub mod Put

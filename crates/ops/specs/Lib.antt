@@ -1,2 +1,0 @@
--- What each record does.
-pub mod Ops

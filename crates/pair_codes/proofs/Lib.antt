@@ -1,2 +1,0 @@
--- The way from one term to the next.
-pub mod Steps

@@ -1,2 +1,0 @@
--- The buffers of the direct engine.
-pub mod Rooms

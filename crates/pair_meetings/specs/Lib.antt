@@ -1,2 +1,0 @@
--- What the direct engine keeps while rows meet.
-pub mod Buffers

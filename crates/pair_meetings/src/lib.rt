@@ -1,2 +1,0 @@
-// Two rows of a run meet.
-pub mod vetted;

@@ -1,2 +1,0 @@
--- That the code of a record beneath a term is that of its own term.
-pub mod Coded

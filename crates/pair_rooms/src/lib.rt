@@ -1,2 +1,0 @@
-// Room for the ranks of the direct engine, and for what edges reach.
-pub mod vetted;

@@ -1,0 +1,4 @@
+pub mod Coded
+pub mod Steps
+pub mod Parts
+pub mod Grouped

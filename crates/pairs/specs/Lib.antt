@@ -1,0 +1,3 @@
+pub mod Ranks
+pub mod Pairs
+pub mod GroupsPairs

@@ -1,0 +1,5 @@
+pub mod LowestIn
+pub mod Naming
+pub mod Lowest
+pub mod Entry
+pub mod Answers

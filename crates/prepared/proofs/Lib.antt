@@ -1,4 +1,0 @@
--- Laws that the proofs share.
-pub mod RunEnd
-pub mod Rows
-pub mod PastEnd

@@ -1,2 +1,0 @@
-// The rank of one value under a base term: what it is, and how one by distance is found.
-pub mod vetted;

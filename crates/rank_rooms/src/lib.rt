@@ -1,2 +1,0 @@
-// Room for the ranks of the engine by parts, and for what edges reach.
-pub mod vetted;

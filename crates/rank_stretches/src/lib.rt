@@ -1,2 +1,0 @@
-// The ranks of up to 64 rows under one base record.
-pub mod vetted;

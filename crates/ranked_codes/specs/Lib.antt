@@ -1,2 +1,0 @@
--- Two values and their ranks.
-pub mod Ranks

@@ -1,2 +1,0 @@
--- Which rows a row meets in its round.
-pub mod Rivals

@@ -1,2 +1,0 @@
-// Which rows of a block a row meets.
-pub mod vetted;

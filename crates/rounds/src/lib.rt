@@ -1,2 +1,0 @@
-// Elimination over blocks of 64 rows.
-pub mod vetted;

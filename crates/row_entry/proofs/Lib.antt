@@ -1,2 +1,0 @@
--- What the search for a witness has found.
-pub mod Sought

@@ -1,2 +1,0 @@
-// One row's entry in the answers of the direct engine.
-pub mod vetted;

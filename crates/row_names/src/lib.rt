@@ -1,2 +1,0 @@
-// A kept row names the rows that it beats, block by block.
-pub mod vetted;

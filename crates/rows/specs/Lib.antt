@@ -1,0 +1,5 @@
+pub mod Group
+pub mod Values
+pub mod Places
+pub mod Stretch
+pub mod Keys

@@ -1,0 +1,48 @@
+-- `table::judging::judge_record` meets its contract. Assumes nothing.
+use mathlib.Core.Path.{_∙_, sym}
+use denote.Ref.{now}
+use borrow.Author.Needs.{needs}
+use Rattle.table.proofs.StepsLaws.{judge-after}
+use Rattle.table.proofs.judging.judge_record.Statement.{statement}
+use Rattle.table.proofs.judging.judge_record.Tie as tie
+
+judge-first-requires : tie.Need-judge-first-requires
+judge-first-requires c κs = c .before .pre .met
+
+enum-told : tie.Need-enum-told
+enum-told c = search needs
+
+enum-told-2 : tie.Need-enum-told-2
+enum-told-2 c = search needs
+
+judge-rest-requires : tie.Need-judge-rest-requires
+judge-rest-requires c κs =
+    let f = c .before .before in
+    let s = f .before .before in
+    (record { reached = s .pre .reached; fields = sym (f .judge-first .ensures) ∙ c .enum-told2 .given .1 }, s .pre .met .carried .nearest)
+
+returns : tie.Need-returns
+returns c =
+    let f = c .before .before in
+    let s = f .before .before in
+    let e = c .enum-told .given .1 in
+    e ∙ sym (judge-after (now (s .args .table)) (s .args .columns) (s .args .k) _ (sym (f .judge-first .ensures) ∙ e))
+
+returns-2 : tie.Need-returns-2
+returns-2 c =
+    let e = c .before in
+    let f = e .before .before in
+    let s = f .before .before in
+    c .judge-rest .ensures
+    ∙ sym (judge-after (now (s .args .table)) (s .args .columns) (s .args .k) _ (sym (f .judge-first .ensures) ∙ e .enum-told2 .given .1))
+
+pub judge-record-spec : {M : Type 1} → statement M
+judge-record-spec =
+    tie.close
+    (tie.spec
+    judge-first-requires
+    enum-told
+    enum-told-2
+    judge-rest-requires
+    returns
+    returns-2)

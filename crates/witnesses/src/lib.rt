@@ -1,2 +1,0 @@
-// The answers of the direct engine.
-pub mod vetted;
