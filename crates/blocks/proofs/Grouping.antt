@@ -17,7 +17,7 @@ use Rattle.rows.specs.Group.{differs, differs-none, differs-left, equal-in-belo
 use Rattle.rows.specs.Keys.{Keyed}
 use Rattle.rows.specs.Values.{Valued}
 use Rattle.rows.specs.Places.{row-length}
-use Rattle.lanes.specs.Wrote.{Wrote}
+use Rattle.laws.specs.Wrote.{Wrote}
 use Rattle.lanes.specs.Lit.{lit, free, pending, freeLane, pendingLane}
 use Rattle.lanes.proofs.LitStored.{any-step, lit-byte}
 use Rattle.lanes.specs.Equal.{equalLane, keyLane}

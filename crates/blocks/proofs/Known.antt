@@ -20,7 +20,7 @@ use Rattle.plan.specs.Told.{bits}
 use Rattle.plan.specs.Exits.{Exits, maskAt}
 use Rattle.plan.specs.Known.{Known}
 use Rattle.plan.proofs.Known.{known-none, known-silent, known-more, known-stop, known-all, known-on}
-use Rattle.lanes.specs.Wrote.{Wrote}
+use Rattle.laws.specs.Wrote.{Wrote}
 use Rattle.lanes.specs.KnownLanes.{startLane, bitsLane, Ended}
 use Rattle.blocks.specs.Ready.{Coded}
 use Rattle.blocks.specs.Blocks.{KnownLanes, RecordTold, AskedCoded}

@@ -19,7 +19,7 @@ use Rattle.terms.specs.Prepared.{EndPlace, ReachedFrom}
 use Rattle.terms.specs.Leads.{leads-is}
 use Rattle.ranks.specs.Rank.{rankOf, PlaceOf}
 use Rattle.ranks.specs.ByRank.{isExplicit, ranks-code, order-code}
-use Rattle.lanes.specs.Wrote.{Wrote}
+use Rattle.laws.specs.Wrote.{Wrote}
 use Rattle.lanes.specs.Lanes.{orderCode, orderLane, rankedLane, placeCode, placeLane}
 use Rattle.blocks.specs.Base.{BaseAsked, BaseCoded, placesCode, Against}
 

@@ -15,7 +15,7 @@ use Rattle.laws.specs.Codes.{code}
 use Rattle.laws.specs.AcceptedKinds.{accepted-joined, accepted-dual}
 use Rattle.plan.specs.Beneath.{OfParts, parts-low}
 use Rattle.plan.specs.Codes.{joined-code-is, dual-code-is}
-use Rattle.lanes.specs.Wrote.{Wrote}
+use Rattle.laws.specs.Wrote.{Wrote}
 use Rattle.lanes.specs.Compound.{joinedLane, turnedLane, compoundLane}
 use Rattle.blocks.specs.Ready.{Ready, AtRecord, Coded}
 use Rattle.blocks.specs.Coded.{ok, below, coded-more}

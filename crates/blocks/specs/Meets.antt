@@ -21,7 +21,7 @@ use Rattle.laws.specs.Cases.{below-or-not}
 use Rattle.laws.specs.Elimination.{Apart, Turn, Met}
 use Rattle.laws.specs.Firsts.{Firsts, firsts-less}
 use Rattle.laws.specs.Rounds.{rounds-more, turn-more, turn-met}
-use Rattle.lanes.specs.Wrote.{Wrote}
+use Rattle.laws.specs.Wrote.{Wrote}
 use Rattle.lanes.specs.Lit.{free, hit}
 use Rattle.lanes.specs.Marks.{goneLane, nameLane}
 use Rattle.blocks.specs.Rivals.{rival}

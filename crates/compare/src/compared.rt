@@ -1,4 +1,4 @@
-// The comparison that rests on a table that the check has accepted.
+// Two rows compared under a term of a table that the check has accepted: what its values are prepared for, then the loop.
 use crate::outcomes::compare_rows;
 use model::Outcome;
 use terms::vetted::prepared::fill_closures;

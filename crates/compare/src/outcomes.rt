@@ -18,7 +18,7 @@ ghost use Rattle.laws.specs.Runs.{valuesBetween};
 ghost use Rattle.laws.specs.Codes.{outcomeOf, joinedCode};
 ghost use Rattle.compare.specs.Rows.{Ready, RecordReady, PartsBelow, recordCode, compoundCode};
 
-// The outcome of the first row against the second. What is prepared of the table's values (crate `prepared`) is handed in, so
+// The outcome of the first row against the second. What is prepared of the table's values (`prepared` of `terms`) is handed in, so
 // that an engine prepares once and compares many pairs.
 pub fn compare_rows(
     table: &[u8],

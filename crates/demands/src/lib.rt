@@ -1,6 +1,6 @@
 // The third signed sentence (document 00), whole, as document 01 spells it ("What demand 3 says, word by word"). Theorems
-// about the definitions that the calls' contracts cite, with an empty body; crates `compare_demands` and `query_demands` say
-// it of the calls themselves. "Keeps" is that Query, by either engine, gives row i the entry i: `keeps` reads `queryBuffer`,
+// about the definitions that the calls' contracts cite, with an empty body; `strictly` and `engines` say it of the
+// calls themselves. "Keeps" is that Query, by either engine, gives row i the entry i: `keeps` reads `queryBuffer`,
 // which is what both engines write. a, b and c are answer buffers.
 mod agreement;
 pub mod engines;

@@ -1,5 +1,5 @@
-// The top of the direct engine: the room for the ranks, and for what edges reach. What else is prepared once per query and the
-// loops are crates of their own.
+// The direct engine: rows compared pair by pair. Below `vetted`, the top, stand the room for ranks, the rounds in which rows
+// meet, and the answers.
 mod entries;
 mod entry;
 mod kept_list;

@@ -8,7 +8,7 @@ use lib.ListN.{getD}
 use mir.Val.{boolByte}
 use Rattle.model.specs.Search.{anyBelow}
 use Rattle.laws.specs.Search.{none-e}
-use Rattle.lanes.specs.Wrote.{Wrote}
+use Rattle.laws.specs.Wrote.{Wrote}
 use Rattle.lanes.specs.Lit.{lit, hit}
 use Rattle.lanes.specs.Marks.{goneLane, nameLane}
 

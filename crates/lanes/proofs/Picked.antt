@@ -11,7 +11,7 @@ use lib.ListN.{getD}
 use borrow.Author.Tests.{eqb-true, leb-true}
 use Rattle.laws.specs.Bools.{and-l, and-r}
 use Rattle.laws.specs.Search.{lt-suc-cases}
-use Rattle.lanes.specs.Wrote.{Wrote}
+use Rattle.laws.specs.Wrote.{Wrote}
 use Rattle.model.specs.Search.{anyBelow}
 use Rattle.laws.specs.Codes.{turnedCode}
 use Rattle.plan.specs.Told.{toldCode, whollyCode}

@@ -1,50 +1,20 @@
--- Tests of signed numbers as codes, with no branch, and a signed number as a place. Assumes nothing.
+-- The code of an order as a sum, and a signed number as a place. Assumes nothing.
 use mathlib.Core.Path.{_≡_, refl, sym}
-use mathlib.Core.Bool.{Bool, true, false, not, false≢true}
-use mathlib.Core.Logic.{⊎-elim}
+use mathlib.Core.Bool.{Bool, true, false, false≢true}
 use mathlib.Core.List.{List}
-use Prim.Native.Nat.{ℕ, _+_, _*_, _≤_, _<_}
+use Prim.Native.Nat.{ℕ, _+_, _*_, _<_}
 use native.Mathlib.Omega.{arith}
-use lib.Dec.{T, lit≤, leb, ltb, eqb}
+use lib.Dec.{T, ltb, eqb}
 use lib.IntN.{ℤ, pos, negsuc, natAbs}
 use lib.ListN.{getD}
-use lib.Signed.{ltZ, leZ, nonNeg}
+use lib.Signed.{ltZ, nonNeg}
 use mir.Val.{boolByte}
-use borrow.Author.Tests.{ltb-true, ltb-false, le-leb, lt-leb, eq-eqb}
+use borrow.Author.Tests.{ltb-true, ltb-false, eq-eqb}
 use Rattle.model.specs.Bytes.{eqZ}
-use Rattle.laws.specs.Bools.{on-or-off, eqZ→≡, ltZ-irrefl, ltZ-trans}
+use Rattle.laws.specs.Bools.{eqZ→≡, ltZ-irrefl}
+use Rattle.laws.specs.Tests.{one-way}
 use Rattle.laws.specs.ValueCodes.{testsCode}
 use Rattle.lanes.specs.Lanes.{orderCode, placeCode}
-
--- A test as a number is at most 1,
-pub byte-small : (b : Bool) → boolByte b ≤ 1
-byte-small true = lit≤ tt
-byte-small false = lit≤ tt
-
--- and a factor that never enlarges.
-pub byte-factor : (b : Bool) (n : ℕ) → boolByte b * n ≤ n
-byte-factor true n = omega arith
-byte-factor false n = omega arith
-
--- ---- order
-
--- At most is: not above.
-le-nat : (a b : ℕ) → leb a b ≡ not (ltb b a)
-le-nat a b =
-    ⊎-elim
-    (λ e. rw e (lt-leb a b (ltb-true b a e)))
-    (λ e. rw e (le-leb a b (ltb-false b a e)))
-    (on-or-off (ltb b a))
-
-le-not : (x y : ℤ) → leZ x y ≡ not (ltZ y x)
-le-not (pos a) (pos b) = le-nat a b
-le-not (pos a) (negsuc b) = refl
-le-not (negsuc a) (pos b) = refl
-le-not (negsuc a) (negsuc b) = le-nat b a
-
--- Not both below.
-one-way : (x y : ℤ) → ltZ x y ≡ true → ltZ y x ≡ true → ⊥
-one-way x y p q = ltZ-irrefl x (ltZ-trans x y x p q)
 
 -- Below is not the same.
 below-apart : (x y : ℤ) → eqZ x y ≡ true → ltZ x y ≡ true → ⊥
@@ -80,21 +50,6 @@ order-sum x y =
     order-tests (eqZ x y) (ltZ x y) (ltZ y x) (below-apart x y)
     (λ e q. ltZ-irrefl x (rw (sym (eqZ→≡ x y e)) at q))
     (one-way x y) (neither x y)
-
-ranked-tests : (e p q : Bool) → (p ≡ true → q ≡ true → ⊥)
-    → boolByte (not e) * (boolByte (not q) + 2 * boolByte (not p)) ≡ testsCode e p q
-unfolding testsCode
-ranked-tests e true true h = absurd (h refl refl)
-ranked-tests true true false h = refl
-ranked-tests true false true h = refl
-ranked-tests true false false h = refl
-ranked-tests false true false h = refl
-ranked-tests false false true h = refl
-ranked-tests false false false h = refl
-
-pub ranked-sum : (e : Bool) (x y : ℤ)
-    → boolByte (not e) * (boolByte (leZ x y) + 2 * boolByte (leZ y x)) ≡ testsCode e (ltZ x y) (ltZ y x)
-ranked-sum e x y = rw (le-not x y, le-not y x) (ranked-tests e (ltZ x y) (ltZ y x) (one-way x y))
 
 -- ---- places
 

@@ -1,4 +1,4 @@
--- What each loop over 64 lanes leaves in lane j (what is told: crate `exits`).
+-- What each loop over 64 lanes leaves in lane j (what is told: `exits` of `plan`).
 use mathlib.Core.Path.{_≡_}
 use mathlib.Core.Bool.{cond}
 use mathlib.Core.List.{List}

@@ -1,5 +1,3 @@
-pub mod Wrote
-pub mod Writes
 pub mod Lanes
 pub mod Lit
 pub mod Equal

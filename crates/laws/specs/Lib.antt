@@ -23,6 +23,9 @@ pub mod Outcome
 pub mod Compared
 pub mod Codes
 pub mod ValueCodes
+pub mod Tests
+pub mod Wrote
+pub mod Writes
 pub mod Select
 pub mod Answers
 pub mod Placing

@@ -6,8 +6,8 @@ use Prim.Native.Nat.{ℕ, _+_, _<_}
 use native.Mathlib.Omega.{arith}
 use lib.ListN.{length, set}
 use lib.Seq.{getD-set-same, getD-set-other}
 use Rattle.laws.specs.Search.{lt-suc-cases}
-use Rattle.lanes.specs.Wrote.{Wrote}
+use Rattle.laws.specs.Wrote.{Wrote}
 
 module _ {A : Type 0} (z : A) (f : ℕ → A) (a : ℕ) (d : List A) where
   -- Before the first entry nothing is written.

@@ -1,1 +1,2 @@
-// Theorems about the definitions of `model` (specs/). Laws only; the crate `theorems` states those that a reader should read.
+// Theorems about the definitions of `model`, and laws that the code rests on. No code (specs/); `theorems` states those that a
+// reader should read.

@@ -1,4 +1,4 @@
-// Two rows compared by their ranks, record by record, until the outcome is known.
+// Two rows of a run compared by their ranks, record by record, until the outcome is known; for the direct engine.
 mod codes;
 mod records;
 mod values;

@@ -12,7 +12,7 @@ use Rattle.model.specs.Query.{kept}
 use Rattle.laws.specs.Bools.{on-or-off}
 use Rattle.laws.specs.Order.{Rel}
 use Rattle.laws.specs.Elimination.{Settled}
-use Rattle.lanes.specs.Wrote.{Wrote}
+use Rattle.laws.specs.Wrote.{Wrote}
 use Rattle.lanes.specs.Lit.{pending, hit}
 use Rattle.lanes.specs.Marks.{nameLane}
 use Rattle.blocks.specs.Alive.{Beyond}

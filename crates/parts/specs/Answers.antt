@@ -17,7 +17,7 @@ use Rattle.laws.specs.Order.{Rel, Strict}
 use Rattle.laws.specs.Select.{dropped-beaten}
 use Rattle.laws.specs.Answers.{answer-kept}
 use Rattle.laws.specs.Fill.{fill-ext}
-use Rattle.lanes.specs.Wrote.{Wrote}
+use Rattle.laws.specs.Wrote.{Wrote}
 use Rattle.blocks.specs.Alive.{Above, Beyond}
 use Rattle.laws.specs.Elimination.{Rounds, Settled}
 use Rattle.laws.specs.Firsts.{Firsts, firsts-start}

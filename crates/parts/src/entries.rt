@@ -5,7 +5,7 @@ ghost use Prim.Native.Nat.{_<_, _≤_};
 ghost use lib.Dec.{eqb};
 ghost use lib.ListN.{length, getD};
 ghost use Rattle.model.specs.Search.{countBelow, fill};
-ghost use Rattle.lanes.specs.Wrote.{Wrote};
+ghost use Rattle.laws.specs.Wrote.{Wrote};
 ghost use Rattle.parts.specs.Entry.{entryOf, nameOf, firstName};
 
 // The first n rows are not gone.

@@ -1,4 +1,5 @@
-// The top of the engine by parts: how much room a query takes. The rooms for ranks and the loops are crates of their own.
+// The engine by parts: 64 rows at a time, from the answers of the smaller wishes. Below `vetted`, the top, stand the room for
+// ranks, the rounds in which rows meet, the naming of the rows that are gone, and the answers.
 mod block_entries;
 mod block_names;
 mod entries;

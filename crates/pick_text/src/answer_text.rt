@@ -1,4 +1,4 @@
-// An inner function that `pick_text` calls. The function asks that neither file is refused.
+// What `pick` prints where nothing is refused: the answers of Query. The function asks that neither file is refused.
 use crate::MOST_TEXT;
 use crate::lines::put_answer;
 use crate::lines::put_refused;

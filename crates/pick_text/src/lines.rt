@@ -1,4 +1,4 @@
-// Inner functions that `pick_text` calls. Each function asks that the buffer has room.
+// The lines that `pick` prints besides those of the rows, put into a buffer. Each function asks that the buffer has room.
 use crate::fields::put;
 use crate::fields::put_byte;
 use crate::fields::put_number;

@@ -1,4 +1,4 @@
-// Zeros written after what a buffer begins with.
+// Zeros after what a buffer begins with. The function asks that this ends in the buffer.
 ghost use mathlib.Core.Path.{_≡_};
 ghost use mathlib.Core.List.{_++_};
 ghost use Prim.Native.Nat.{_-_, _≤_};

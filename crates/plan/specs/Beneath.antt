@@ -28,12 +28,12 @@ OfRecord P Unknown = Unit {0}
 pub record PartsLow (table : List ℕ) (term : ℕ) : Type 0 where
   pub each : (k : ℕ) (c : CompoundTerm) → k ≤ term → recordAt table k ≡ Compound c → OfParts (λ p. p < k) c
 
--- Each record below m that tells of the asked term, by its mask (crate `exits`), is marked.
+-- Each record below m that tells of the asked term, by its mask (`exits`), is marked.
 pub record Telling (exits : List ℕ) (m : ℕ) (marks : List Bool) : Type 0 where
   pub room : length marks ≡ 128
   pub each : (k : ℕ) → k < m → getD marks k false ≡ false → getD exits k 0 ≡ 0
 
--- Each record that tells of the asked term, by its mask (crate `exits`), is marked, and so are the parts of each marked compound
+-- Each record that tells of the asked term, by its mask (`exits`), is marked, and so are the parts of each marked compound
 -- from record m up to the term.
 pub record MarkedFrom (table : List ℕ) (term m : ℕ) (exits : List ℕ) (marks : List Bool) : Type 0 where
   pub room : length marks ≡ 128

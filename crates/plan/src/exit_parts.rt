@@ -1,4 +1,4 @@
-// The masks of a compound's parts, from its own (crate `exit_masks`). Each function asks what the check has shown before.
+// The masks of a compound's parts, from its own (`exit_masks`). Each function asks what the check has shown before.
 use crate::vetted::exit_masks::own_mask;
 use crate::vetted::exit_masks::part_mask;
 use crate::vetted::exit_masks::turned_mask;

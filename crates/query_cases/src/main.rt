@@ -2,7 +2,7 @@
 // hand from document 01. The head of a case is the column count and the term's record number, and, where they are not
 // what is said here, the group byte (`group`, else 0; several with `to`, which must all give one answer), how many entries
 // the buffer has (`buffer`, else two more than rows) and the table's length in bytes (`table`, else that of the records).
-// The rows follow (`query_lines`), then the records. An answer is the kept count or the refusal, and the whole buffer.
+// The rows follow (`query_lines` of `case_lines`), then the records. An answer is the kept count or the refusal, and the whole buffer.
 use case_lines::query_answers::answer;
 use case_lines::query_answers::apart;
 use case_lines::query_answers::clear;

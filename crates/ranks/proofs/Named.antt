@@ -15,7 +15,7 @@ use Rattle.laws.specs.Runs.{valuesBetween, between-none, between-more}
 use Rattle.records.specs.Fields.{valueAt}
 use Rattle.terms.specs.Prepared.{numberAt}
 use Rattle.terms.proofs.Ends.{number-u}
-use Rattle.lanes.specs.Wrote.{Wrote}
+use Rattle.laws.specs.Wrote.{Wrote}
 use Rattle.ranks.specs.Put.{putLane, cellLane, isNumber, isValue, lastPlace, placeLane}
 
 module _ (table : List ℕ) where

@@ -10,7 +10,7 @@ use lib.ListN.{getD}
 use borrow.Author.Tests.{ltb-true, ltb-false}
 use Rattle.laws.specs.Bools.{on-or-off}
 use Rattle.rows.specs.Stretch.{Same, Stretch}
-use Rattle.lanes.specs.Wrote.{Wrote}
+use Rattle.laws.specs.Wrote.{Wrote}
 use Rattle.ranks.specs.Put.{cellLane}
 
 -- What is neither below a stretch nor in it is above.

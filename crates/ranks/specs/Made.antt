@@ -5,7 +5,7 @@ use mathlib.Core.List.{List}
 use Prim.Native.Nat.{ℕ, _+_}
 use lib.IntN.{ℤ, pos}
 use lib.ListN.{getD}
-use Rattle.lanes.specs.Wrote.{Wrote}
+use Rattle.laws.specs.Wrote.{Wrote}
 use Rattle.ranks.specs.Put.{putLane, cellLane}
 
 module _ (y : ℤ) (cells : List ℤ) (at m : ℕ) where

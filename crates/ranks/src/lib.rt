@@ -1,4 +1,4 @@
-// The rank of every row under every base term, once per query: the lower is better.
+// The rank of every row under every base term, once per query, for both engines: the lower is better.
 mod classes;
 mod distance;
 mod distances;

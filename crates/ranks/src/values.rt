@@ -11,7 +11,7 @@ ghost use Rattle.model.specs.Better.{inRole};
 ghost use Rattle.laws.specs.Runs.{valuesBetween};
 ghost use Rattle.terms.specs.Run.{Values};
 ghost use Rattle.terms.specs.Prepared.{Numbers};
-ghost use Rattle.lanes.specs.Wrote.{Wrote};
+ghost use Rattle.laws.specs.Wrote.{Wrote};
 ghost use Rattle.ranks.specs.Put.{putLane, cellLane, isNumber, isValue, oneRole, twoRoles, edgePlace};
 
 // `class` for the cells in that role, `others` for the others.

@@ -1,2 +1,2 @@
-// The rows of a run: their groups, their keys, and their cells block by block.
+// The rows of a run: their groups, the keys that tell groups apart, and their cells block by block.
 pub mod vetted;

@@ -1,4 +1,5 @@
-// Each chain of rules is written from its last rule to its first.
+// The rules of one record in two chains, 3 to 8 and 9 to 11 (document 01, "What a call turns down"), each written from its
+// last rule to its first. The second asks that the check has judged the records before.
 use crate::filler::fails_filler;
 use crate::rules::fails_column;
 use crate::rules::fails_kind;

@@ -1,6 +1,6 @@
 // The refusals of document 01 that can be told of any record of any bytes: 1 to 8 and 12, save FILLER, which stands in
-// `filler`. CLASH and LOOP, which look at a term's earlier values, stand in `runs`; CROWD in `rule_chains`, APART in `apart`,
-// the order of all of them in `judging_steps`, and LOOSE in `table`.
+// `filler`. CLASH and LOOP, which look at a term's earlier values, stand in `runs`; CROWD in `chains`, APART in `apart`,
+// the order of all of them in `judging`, and LOOSE in `verdict`.
 use model::MOST_COLUMNS;
 use model::MOST_TABLE_BYTES;
 use model::RECORD_BYTES;

@@ -8,7 +8,7 @@ ghost use mathlib.Core.Path.{_≡_};
 ghost use Prim.Native.Nat.{_+_, _*_, _<_, _≤_};
 ghost use lib.ListN.{length};
 ghost use Rattle.plan.specs.Beneath.{OfParts};
-ghost use Rattle.lanes.specs.Wrote.{Wrote};
+ghost use Rattle.laws.specs.Wrote.{Wrote};
 ghost use Rattle.lanes.specs.Compound.{orLane, priorLane, joinedLane, turnedLane, compoundLane};
 
 // Compound k's, where each record has `count`.

@@ -2,7 +2,7 @@
 // its buffers have room. `live` has 1 for a lane that is lit.
 ghost use Prim.Native.Nat.{_+_, _≤_};
 ghost use lib.ListN.{length};
-ghost use Rattle.lanes.specs.Wrote.{Wrote};
+ghost use Rattle.laws.specs.Wrote.{Wrote};
 ghost use Rattle.lanes.specs.Equal.{keyLane, equalLane};
 
 // Lit where it was and the key is the one given.

@@ -5,7 +5,7 @@ ghost use mathlib.Core.Path.{_≡_};
 ghost use mathlib.Core.Bool.{true, cond};
 ghost use Prim.Native.Nat.{_+_, _<_, _≤_};
 ghost use lib.ListN.{length};
-ghost use Rattle.lanes.specs.Wrote.{Wrote};
+ghost use Rattle.laws.specs.Wrote.{Wrote};
 ghost use Rattle.lanes.specs.KnownLanes.{Told, Ended, startLane, addLane, pickCode, pickLane, bitsLane};
 
 // Nothing is known at first of a lane that is lit. Of the others nothing is asked.

@@ -4,7 +4,7 @@ ghost use mathlib.Core.Path.{_≡_};
 ghost use Prim.Native.Nat.{_+_, _≤_};
 ghost use lib.ListN.{length};
 ghost use Rattle.model.specs.Search.{anyBelow};
-ghost use Rattle.lanes.specs.Wrote.{Wrote};
+ghost use Rattle.laws.specs.Wrote.{Wrote};
 ghost use Rattle.lanes.specs.Lit.{freeLane, pendingLane, lit, hit};
 
 // Lit where the row is not gone.

@@ -6,7 +6,7 @@ ghost use mathlib.Core.Path.{_≡_};
 ghost use mathlib.Core.Bool.{cond};
 ghost use Prim.Native.Nat.{_+_, _≤_};
 ghost use lib.ListN.{length};
-ghost use Rattle.lanes.specs.Wrote.{Wrote};
+ghost use Rattle.laws.specs.Wrote.{Wrote};
 ghost use Rattle.lanes.specs.Marks.{goneLane, nameLane};
 
 // Their rows are gone.

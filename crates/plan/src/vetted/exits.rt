@@ -1,4 +1,4 @@
-// The masks of the records beneath the asked term (crate `exit_masks`). Each function asks what the check has shown before.
+// The masks of the records beneath the asked term (`exit_masks`). Each function asks what the check has shown before.
 use crate::exit_parts::push;
 use model::CompoundTerm;
 use model::Pair;

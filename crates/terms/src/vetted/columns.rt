@@ -1,4 +1,4 @@
-// The columns that a term reads, as a mask, and how many they are.
+// The columns that a term reads, as a mask with bit j for column j, and how many they are.
 use model::CompoundTerm;
 use model::Record;
 use records::record::kind_at;

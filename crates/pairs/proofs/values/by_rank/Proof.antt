@@ -5,7 +5,7 @@ use lib.Signed.{leZ}
 use mir.Syntax.{w32}
 use mir.Val.{toZ, ofZ}
 use mir.Facts.{toZ-ofZ}
-use Rattle.lanes.proofs.Tests.{byte-small, ranked-sum}
+use Rattle.laws.specs.Tests.{byte-small, ranked-sum}
 use borrow.Author.Needs.{needs}
 use Rattle.pairs.proofs.values.by_rank.Statement.{statement}
 use Rattle.pairs.proofs.values.by_rank.Tie as tie

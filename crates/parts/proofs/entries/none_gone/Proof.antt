@@ -5,8 +5,8 @@ use native.Mathlib.Nat.{le-antisymm}
 use native.Mathlib.Omega.{arith}
 use lib.ListN.{length, length-set}
 use borrow.Author.Needs.{needs}
-use Rattle.lanes.specs.Wrote.{Wrote}
-use Rattle.lanes.specs.Writes.{wrote-none, wrote-head}
+use Rattle.laws.specs.Wrote.{Wrote}
+use Rattle.laws.specs.Writes.{wrote-none, wrote-head}
 use Rattle.parts.proofs.entries.none_gone.Statement.{statement}
 use Rattle.parts.proofs.entries.none_gone.Tie as tie
 

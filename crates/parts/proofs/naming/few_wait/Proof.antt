@@ -5,7 +5,7 @@ use native.Mathlib.Omega.{arith}
 use lib.Dec.{eqb}
 use lib.ListN.{getD}
 use borrow.Author.Needs.{needs}
-use Rattle.lanes.proofs.Tests.{byte-small}
+use Rattle.laws.specs.Tests.{byte-small}
 use Rattle.parts.proofs.naming.few_wait.Statement.{statement}
 use Rattle.parts.proofs.naming.few_wait.Tie as tie
 

@@ -8,7 +8,7 @@ use lib.ListN.{length}
 use mir.Facts.{toZ-ofZ}
 use denote.Ref.{now}
 use borrow.Author.Needs.{needs, sfits-of}
-use Rattle.lanes.specs.Wrote.{Wrote}
+use Rattle.laws.specs.Wrote.{Wrote}
 use Rattle.ranks.proofs.Ranks.{small}
 use Rattle.ranks.specs.Put.{placeLane, edgePlace}
 use Rattle.ranks.proofs.Named.{places-none, places-more, places-over}

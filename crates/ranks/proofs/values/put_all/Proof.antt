@@ -9,8 +9,8 @@ use mir.Syntax.{w32}
 use mir.Val.{toZ}
 use mir.Facts.{toZ-ofZ}
 use borrow.Author.Needs.{needs}
-use Rattle.lanes.specs.Wrote.{Wrote}
-use Rattle.lanes.specs.Writes.{wrote-none, wrote-store}
+use Rattle.laws.specs.Wrote.{Wrote}
+use Rattle.laws.specs.Writes.{wrote-none, wrote-store}
 use Rattle.ranks.proofs.values.put_all.Statement.{statement}
 use Rattle.ranks.proofs.values.put_all.Tie as tie
 

@@ -11,7 +11,7 @@ use denote.Ref.{now}
 use borrow.Author.Needs.{needs}
 use Rattle.model.specs.Better.{inRole}
 use Rattle.laws.specs.Runs.{valuesBetween}
-use Rattle.lanes.specs.Wrote.{Wrote}
+use Rattle.laws.specs.Wrote.{Wrote}
 use Rattle.ranks.specs.Put.{putLane, isValue}
 use Rattle.ranks.specs.Made.{put-none, put-more}
 use Rattle.ranks.proofs.Named.{role-none, role-more}

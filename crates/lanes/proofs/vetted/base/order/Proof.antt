@@ -5,7 +5,8 @@ use mir.Syntax.{w32}
 use mir.Val.{toZ, ofZ}
 use mir.Facts.{toZ-ofZ}
 use borrow.Author.Needs.{needs}
-use Rattle.lanes.proofs.Tests.{byte-small, order-sum}
+use Rattle.laws.specs.Tests.{byte-small}
+use Rattle.lanes.proofs.Tests.{order-sum}
 use Rattle.lanes.proofs.vetted.base.order.Statement.{statement}
 use Rattle.lanes.proofs.vetted.base.order.Tie as tie
 

@@ -8,8 +8,8 @@ use mir.Syntax.{w32}
 use mir.Val.{toZ}
 use mir.Facts.{toZ-ofZ}
 use borrow.Author.Needs.{needs, sfits-of}
-use Rattle.lanes.specs.Wrote.{Wrote}
-use Rattle.lanes.specs.Writes.{wrote-none, wrote-store}
+use Rattle.laws.specs.Wrote.{Wrote}
+use Rattle.laws.specs.Writes.{wrote-none, wrote-store}
 use Rattle.lanes.specs.Lanes.{placeLane}
 use Rattle.lanes.proofs.Stored.{same-value, place-stored}
 use Rattle.lanes.proofs.vetted.base.place_lanes.Statement.{statement}

@@ -7,7 +7,7 @@ use mir.Syntax.{w32}
 use mir.Val.{boolByte, toZ, ofZ}
 use mir.Facts.{toZ-ofZ}
 use borrow.Author.Needs.{needs}
-use Rattle.lanes.proofs.Tests.{byte-small, byte-factor, ranked-sum}
+use Rattle.laws.specs.Tests.{byte-small, byte-factor, ranked-sum}
 use Rattle.lanes.proofs.vetted.base.ranked.Statement.{statement}
 use Rattle.lanes.proofs.vetted.base.ranked.Tie as tie
 

@@ -6,8 +6,8 @@ use native.Mathlib.Nat.{le-antisymm}
 use lib.Bits.{bitOr}
 use lib.ListN.{length, length-set}
 use borrow.Author.Needs.{needs}
-use Rattle.lanes.specs.Wrote.{Wrote}
-use Rattle.lanes.specs.Writes.{wrote-none, wrote-store}
+use Rattle.laws.specs.Wrote.{Wrote}
+use Rattle.laws.specs.Writes.{wrote-none, wrote-store}
 use Rattle.lanes.specs.Compound.{orLane}
 use Rattle.lanes.proofs.vetted.compound.or_lanes.Statement.{statement}
 use Rattle.lanes.proofs.vetted.compound.or_lanes.Tie as tie

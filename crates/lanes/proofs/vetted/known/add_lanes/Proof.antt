@@ -7,8 +7,8 @@ use native.Mathlib.Nat.{le-antisymm}
 use lib.Bits.{bitOr}
 use lib.ListN.{length, length-set, getD}
 use borrow.Author.Needs.{needs}
-use Rattle.lanes.specs.Wrote.{Wrote}
-use Rattle.lanes.specs.Writes.{wrote-none, wrote-head}
+use Rattle.laws.specs.Wrote.{Wrote}
+use Rattle.laws.specs.Writes.{wrote-none, wrote-head}
 use Rattle.lanes.specs.KnownLanes.{addLane}
 use Rattle.lanes.proofs.vetted.known.add_lanes.Statement.{statement}
 use Rattle.lanes.proofs.vetted.known.add_lanes.Tie as tie

@@ -7,8 +7,8 @@ use native.Mathlib.Nat.{le-antisymm}
 use lib.Bits.{bitOr}
 use lib.ListN.{length, length-set, getD}
 use borrow.Author.Needs.{needs}
-use Rattle.lanes.specs.Wrote.{Wrote}
-use Rattle.lanes.specs.Writes.{wrote-none, wrote-store}
+use Rattle.laws.specs.Wrote.{Wrote}
+use Rattle.laws.specs.Writes.{wrote-none, wrote-store}
 use Rattle.plan.specs.Told.{bits}
 use Rattle.lanes.specs.KnownLanes.{bitsLane}
 use Rattle.lanes.proofs.vetted.known.put_known.Statement.{statement}

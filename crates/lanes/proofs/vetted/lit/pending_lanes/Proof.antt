@@ -5,8 +5,8 @@ use native.Mathlib.Omega.{arith}
 use native.Mathlib.Nat.{le-antisymm}
 use lib.ListN.{length, length-set}
 use borrow.Author.Needs.{needs}
-use Rattle.lanes.specs.Wrote.{Wrote}
-use Rattle.lanes.specs.Writes.{wrote-none, wrote-head}
+use Rattle.laws.specs.Wrote.{Wrote}
+use Rattle.laws.specs.Writes.{wrote-none, wrote-head}
 use Rattle.lanes.specs.Lit.{pending, pendingLane, lit}
 use Rattle.lanes.proofs.vetted.lit.pending_lanes.Statement.{statement}
 use Rattle.lanes.proofs.vetted.lit.pending_lanes.Tie as tie

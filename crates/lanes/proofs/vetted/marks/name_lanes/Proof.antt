@@ -5,8 +5,8 @@ use native.Mathlib.Omega.{arith}
 use native.Mathlib.Nat.{le-antisymm}
 use lib.ListN.{length, length-set}
 use borrow.Author.Needs.{needs}
-use Rattle.lanes.specs.Wrote.{Wrote}
-use Rattle.lanes.specs.Writes.{wrote-none, wrote-store}
+use Rattle.laws.specs.Wrote.{Wrote}
+use Rattle.laws.specs.Writes.{wrote-none, wrote-store}
 use Rattle.lanes.specs.Marks.{nameLane}
 use Rattle.lanes.proofs.MarksStored.{name-is}
 use Rattle.lanes.proofs.vetted.marks.name_lanes.Statement.{statement}
