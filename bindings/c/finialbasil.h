@@ -217,8 +217,7 @@ fnb_reply fnb_query_direct(const uint8_t *table, size_t table_len, size_t column
                            size_t term, uint8_t group, uint16_t *answers, size_t answers_len);
 
 /* Query, by parts: a term's answers are made from those of its parts, 64 rows at a time. Takes, writes, gives and
- * refuses the same as fnb_query_direct, for whatever comes, and is mostly the faster one on larger catalogues and on
- * those of up to 16 rows. */
+ * refuses the same as fnb_query_direct, for whatever comes, and is mostly the faster one from 128 rows on. */
 fnb_reply fnb_query_by_parts(const uint8_t *table, size_t table_len, size_t columns, const int32_t *rows,
                              size_t rows_len, size_t term, uint8_t group, uint16_t *answers, size_t answers_len);
 
