@@ -9,6 +9,9 @@ name := finialbasil-$(version)
 folder := target/dist/$(name)
 archive := target/staticlib/libfinialbasil.a
 
+# Checks run in batches, and a batch ends with its slowest: five at a time keep two processors busy.
+export RT_JOBS ?= 5
+
 # What rt says of each crate that it proves; all that it prints is in the file named.
 said = 2>&1 | tee $(1) | sed -un '/^rt: /{/(unchanged since/!p}' || { tail -n 20 $(1); exit 1; }
 
@@ -17,8 +20,8 @@ help: ## this list
 
 demo: ## prove and build pick, run it on examples/motors and show which motors are kept
 	@mkdir -p target
-	@echo "Proving pick and what it rests on: some minutes from a fresh checkout, seconds after that."
-	@rt check pick $(call said,target/pick.out)
+	@echo "Proving pick and what it rests on: some five minutes from a fresh checkout, seconds after that."
+	@.ci/in-memory rt check pick $(call said,target/pick.out)
 	@examples/motors/show
 
 test: ## prove everything from nothing, try the edits that must fail, run all tests (.ci/run)
@@ -26,7 +29,7 @@ test: ## prove everything from nothing, try the edits that must fail, run all te
 
 archive: ## prove the library and write target/staticlib/libfinialbasil.a
 	@mkdir -p target
-	@rt staticlib finialbasil $(call said,target/staticlib.out)
+	@.ci/in-memory rt staticlib finialbasil $(call said,target/staticlib.out)
 
 dist: archive ## make target/dist/finialbasil-VERSION, what a buyer gets, and the same as a tar file
 	@rm -rf target/dist

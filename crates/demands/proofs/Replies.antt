@@ -16,10 +16,10 @@ use Rattle.laws.specs.Outcome.{isFirst, turned, is-first}
 use Rattle.laws.specs.Compared.{outcome-turned}
 use Rattle.laws.specs.Taken.{taken-sound}
 use Rattle.laws.specs.Replied.{compared-reply, reply-self}
-use Rattle.demands.specs.Strictly.{TermRecord}
+use Rattle.theorems.specs.Strictly.{TermRecord}
 use Rattle.demands.specs.Given.{numberGiven}
 use Rattle.demands.proofs.Numbered.{is-one}
-use Rattle.demands.specs.Ordered.{taken}
+use Rattle.theorems.specs.Ordered.{taken}
 
 -- ---- what the functions test
 

@@ -28,8 +28,8 @@ use Rattle.laws.specs.Replied.{compared-reply}
 use Rattle.rows.specs.Places.{row-length}
 use Rattle.demands.specs.Given.{numberGiven}
 use Rattle.demands.proofs.Numbered.{is-one}
-use Rattle.demands.specs.Asked.{Asked, Long, BeatenBy}
-use Rattle.demands.specs.Dropped.{query-takes, dropped-beaten-by-kept}
+use Rattle.theorems.specs.Asked.{Asked, Long, BeatenBy}
+use Rattle.theorems.specs.Dropped.{query-takes, dropped-beaten-by-kept}
 use Rattle.demands.specs.Witness.{Answers, isWitness, witnessed, allWitnessed, whereKept}
 
 -- A reply refuses or it does not.

@@ -1,16 +1,3 @@
-pub mod Strictly
-pub mod Asked
-pub mod Ordered
-pub mod Dropped
-pub mod Among
-pub mod Placed
-pub mod Alone
-pub mod Equally
-pub mod ThirdClause
-pub mod Unread
-pub mod Cascade
-pub mod Instances
-pub mod InstancesOfRows
 pub mod Given
 pub mod Agreement
 pub mod Witness

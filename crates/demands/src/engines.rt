@@ -1,4 +1,4 @@
-// What the signed sentences say of both engines, of the calls themselves (the root says it of the definitions). Each
+// What the signed sentences say of both engines, of the calls themselves (`theorems` says it of the definitions). Each
 // function says whether the sentence holds of its arguments; that it always does, of whatever document 01 claims it, is its
 // contract, and it is proved from the contracts of the two engines alone.
 use crate::agreement::same::same_entries;

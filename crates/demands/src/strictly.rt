@@ -1,4 +1,4 @@
-// What the third signed sentence says of Compare's replies, of the call itself (the root says it of the definitions).
+// What the third signed sentence says of Compare's replies, of the call itself (`theorems` says it of the definitions).
 // Each function says whether the sentence holds of its arguments; that it always does, of every term record of an accepted
 // table and rows of the count's length, is its contract, and it is proved from the contract of `compare` alone.
 use crate::agreement::given::number_given;

@@ -66,7 +66,7 @@ pub fn refusal_writes_nothing()
         → queryBuffer table columns rows term group before ≡ before) ⌝ }
 {}
 
-// ---- the third signed sentence; what it says of Compare stands in `demands`
+// ---- the third signed sentence; what it says of Compare stands in `signed`
 
 // "Of two parts, one placed before the other keeps a row exactly when the first keeps it and the second keeps it among the
 // rows of the set that equal it in the first's columns": the left first, and the right first.

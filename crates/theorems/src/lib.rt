@@ -29,6 +29,7 @@ ghost use Rattle.laws.specs.Accepted.{Accepted};
 ghost use Rattle.laws.specs.AcceptedTerms.{AcceptedTerm};
 
 pub mod demand;
+pub mod signed;
 
 // ---- better
 

@@ -3,7 +3,7 @@ use mathlib.Core.Path.{_∙_}
 use denote.Ref.{now}
 use borrow.Author.Needs.{needs}
 use Rattle.laws.specs.Bools.{and-i}
-use Rattle.demands.specs.Asked.{Asked}
+use Rattle.theorems.specs.Asked.{Asked}
 use Rattle.demands.proofs.Witnesses.{replied-answers, engine-witnessed, still-long, refused-false}
 use Rattle.demands.proofs.engines.beaten_by_kept.Statement.{statement}
 use Rattle.demands.proofs.engines.beaten_by_kept.Tie as tie

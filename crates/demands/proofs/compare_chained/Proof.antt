@@ -1,7 +1,0 @@
--- `demands::compare_chained`: proved in specs/Ordered. Assumes nothing.
-use Rattle.demands.specs.Ordered.{compare-chained}
-use Rattle.demands.proofs.compare_chained.Statement.{statement}
-use Rattle.demands.proofs.compare_chained.Tie as tie
-
-pub compare-chained-spec : {M : Type 1} → statement M
-compare-chained-spec = tie.close (tie.spec (λ c. compare-chained))

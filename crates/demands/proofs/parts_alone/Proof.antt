@@ -1,7 +1,0 @@
--- `demands::parts_alone`: proved in specs/Alone. Assumes nothing.
-use Rattle.demands.specs.Alone.{parts-alone}
-use Rattle.demands.proofs.parts_alone.Statement.{statement}
-use Rattle.demands.proofs.parts_alone.Tie as tie
-
-pub parts-alone-spec : {M : Type 1} → statement M
-parts-alone-spec = tie.close (tie.spec (λ c. parts-alone))

@@ -1,7 +1,0 @@
--- `demands::placings_accepted`: proved in specs/Placed. Assumes nothing.
-use Rattle.demands.specs.Placed.{placings-accepted}
-use Rattle.demands.proofs.placings_accepted.Statement.{statement}
-use Rattle.demands.proofs.placings_accepted.Tie as tie
-
-pub placings-accepted-spec : {M : Type 1} → statement M
-placings-accepted-spec = tie.close (tie.spec (λ c. placings-accepted))

@@ -1,7 +1,0 @@
--- `demands::second_by_group`: proved in specs/Among. Assumes nothing.
-use Rattle.demands.specs.Among.{second-by-group}
-use Rattle.demands.proofs.second_by_group.Statement.{statement}
-use Rattle.demands.proofs.second_by_group.Tie as tie
-
-pub second-by-group-spec : {M : Type 1} → statement M
-second-by-group-spec = tie.close (tie.spec (λ c. second-by-group))

@@ -1,7 +1,0 @@
--- `demands::third_clause_needed`: proved in specs/ThirdClause. Assumes nothing.
-use Rattle.demands.specs.ThirdClause.{third-clause-needed}
-use Rattle.demands.proofs.third_clause_needed.Statement.{statement}
-use Rattle.demands.proofs.third_clause_needed.Tie as tie
-
-pub third-clause-needed-spec : {M : Type 1} → statement M
-third-clause-needed-spec = tie.close (tie.spec (λ c. third-clause-needed))
