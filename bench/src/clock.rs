@@ -43,6 +43,14 @@ pub const FULL: Pace = Pace {
     rows: 1024,
 };
 
+/// One of many runs whose medians are compared.
+pub const BRIEF: Pace = Pace {
+    rounds: 3,
+    batch: 1e-3,
+    search: 0.0,
+    rows: 128,
+};
+
 /// One call each: enough to see that everything runs and agrees.
 pub const QUICK: Pace = Pace {
     rounds: 1,

@@ -2,6 +2,7 @@
 //! that differ do.
 mod aims;
 mod clock;
+mod compare;
 mod dearest;
 mod engines;
 mod growth;
@@ -17,14 +18,20 @@ mod table;
 
 use std::process::ExitCode;
 
-const USAGE: &str = "usage: bench/run [quick] [svg FILE]";
+const USAGE: &str = "usage: bench/run [quick] [svg FILE], or bench/compare OLD NEW [PLACEMENTS]";
 
 struct Options {
     quick: bool,
     svg: Option<String>,
 }
 
-fn options() -> Option<Options> {
+enum Task {
+    Tables(Options),
+    Measure,
+    Compare(String, String),
+}
+
+fn task() -> Option<Task> {
     let mut options = Options {
         quick: false,
         svg: None,
@@ -34,13 +41,15 @@ fn options() -> Option<Options> {
         match word.as_str() {
             "quick" => options.quick = true,
             "svg" => options.svg = Some(words.next()?),
+            "measure" => return Some(Task::Measure),
+            "compare" => return Some(Task::Compare(words.next()?, words.next()?)),
             _ => return None,
         }
     }
-    Some(options)
+    Some(Task::Tables(options))
 }
 
-fn run(options: &Options) -> Result<(), String> {
+fn tables(options: &Options) -> Result<(), String> {
     let pace = match options.quick {
         true => clock::QUICK,
         false => clock::FULL,
@@ -60,12 +69,20 @@ fn run(options: &Options) -> Result<(), String> {
     Ok(())
 }
 
+fn run(task: Task) -> Result<(), String> {
+    match task {
+        Task::Tables(options) => tables(&options),
+        Task::Measure => compare::measure(),
+        Task::Compare(old, new) => compare::print(&old, &new),
+    }
+}
+
 fn main() -> ExitCode {
-    let Some(options) = options() else {
+    let Some(task) = task() else {
         eprintln!("{USAGE}");
         return ExitCode::from(2);
     };
-    match run(&options) {
+    match run(task) {
         Ok(()) => ExitCode::SUCCESS,
         Err(words) => {
             eprintln!("bench: {words}");
