@@ -77,7 +77,9 @@ fn read(file: &str) -> Result<Vec<Measured>, String> {
 /// The medians of both, and how many times the old one's the new one's are.
 pub fn print(old: &str, new: &str) -> Result<(), String> {
     let (old, new) = (read(old)?, read(new)?);
-    if old.len() != new.len() {
+    let loads =
+        |all: &[Measured]| -> Vec<_> { all.iter().map(|m| (m.name.clone(), m.rows)).collect() };
+    if loads(&old) != loads(&new) {
         return Err("the two have not the same loads".to_string());
     }
     let mut ratios = Vec::new();

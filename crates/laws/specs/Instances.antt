@@ -1,5 +1,5 @@
--- The theorems of src/lib.rt about terms and tables that have hypotheses, on table T1 and rows V of document 01 ("The pick
--- program"), with every hypothesis computed: none of them is empty. Assumes nothing.
+-- The theorems of theorems/src/lib.rt about terms and tables that have hypotheses, on table T1 and rows V of document 01
+-- ("The pick program"), with every hypothesis computed: none of them is empty. Assumes nothing.
 use mathlib.Core.Path.{_≡_, refl}
 use mathlib.Core.Logic.{inl}
 use mathlib.Core.Bool.{true}

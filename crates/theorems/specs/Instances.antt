@@ -1,5 +1,5 @@
--- The theorems of src/lib.rt about the order and about two parts, on table T1 and rows V of document 01 ("The pick program"),
--- with every hypothesis computed: none of them is empty. Assumes nothing.
+-- The theorems of src/signed.rt about the order and about two parts, on table T1 and rows V of document 01 ("The pick
+-- program"), with every hypothesis computed: none of them is empty. Assumes nothing.
 use mathlib.Core.Path.{_≡_, refl}
 use mathlib.Core.Logic.{_⊎_, inl, _↔_}
 use mathlib.Core.Bool.{true, false, _&&_}

@@ -1,5 +1,5 @@
--- The theorems of src/lib.rt about the rows that are dropped, columns that are not read and chains, on table T1 and rows V of
--- document 01 ("The pick program"), with every hypothesis computed. Assumes nothing.
+-- The theorems of src/signed.rt about the rows that are dropped, columns that are not read and chains, on table T1 and rows
+-- V of document 01 ("The pick program"), with every hypothesis computed. Assumes nothing.
 use mathlib.Core.Path.{_≡_, refl}
 use mathlib.Core.Logic.{_↔_}
 use mathlib.Core.Bool.{true, false, not}
