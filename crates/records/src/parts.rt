@@ -1,4 +1,4 @@
-// How records hang together: the parts of a compound, and which records are parts.
+// How records hang together: the parts of a compound, and which records are terms.
 use crate::record::kind_at;
 use crate::record::p_at;
 use crate::record::q_at;
@@ -6,10 +6,7 @@ use crate::record::record_of;
 use model::CompoundTerm;
 use model::Record;
 ghost use mathlib.Core.Path.{_≡_};
-ghost use lib.Dec.{eqb};
-ghost use Rattle.model.specs.Search.{anyIn};
 ghost use Rattle.model.specs.Record.{recordAt, isTerm, partsOf};
-ghost use Rattle.model.specs.Check.{isPart};
 ghost use Rattle.records.specs.Parts.{partList, partsIn};
 
 // The parts of a record by their numbers: how many, and the left and the right one as far as there are any.
@@ -17,31 +14,6 @@ pub struct Parts {
     pub count: u8,
     pub left: u8,
     pub right: u8,
-}
-
-// Whether record j is a part of one of the first n records.
-pub fn is_part(table: &[u8], n: u8, j: u8) -> bool
-    ensures { λ r. ⌜ r ≡ isPart (now (table .entry)) n j ⌝ }
-{
-    let mut i = 0u8;
-    while i < n {
-        if has_part(table, i, j) {
-            return true;
-        }
-        i += 1;
-    }
-    false
-}
-
-// Whether record j is a part of record i. Most records are told by their bytes, without a look at what they are.
-fn has_part(table: &[u8], i: u8, j: u8) -> bool
-    ensures { λ r. ⌜ r ≡ anyIn (partsOf (recordAt (now (table .entry)) i)) (eqb j) ⌝ }
-{
-    if (j != p_at(table, i)) & (j != q_at(table, i)) {
-        return false;
-    }
-    let s = parts_at(table, i);
-    ((1 <= s.count) & (j == s.left)) | ((2 <= s.count) & (j == s.right))
 }
 
 // The parts of record k. Its numbers have no say in them and are not read.

@@ -1,13 +1,13 @@
 -- The rows of the constant table are the fields that the model wants zero, kind by kind. Assumes nothing.
 use mathlib.Core.Path.{_≡_, refl, sym, _∙_, ap}
 use mathlib.Core.Logic.{⊎-elim}
-use mathlib.Core.Bool.{Bool, true, false, cond, not, _&&_, _||_, or-false, and-comm}
-use Prim.Native.Nat.{ℕ, _≤_}
+use mathlib.Core.Bool.{Bool, true, false, cond, not, _&&_, _||_, or-false, and-comm, true≢false}
+use Prim.Native.Nat.{ℕ, _+_, _-_, _<_, _≤_}
 use native.Mathlib.Omega.{arith}
-use lib.Dec.{eqb, ltb}
+use lib.Dec.{eqb, ltb, leb}
 use lib.IntN.{ℤ, pos}
 use lib.ListN.{getD}
-use borrow.Author.Tests.{eqb-true, ne-eqb, ltb-true, ltb-false}
+use borrow.Author.Tests.{eqb-true, ne-eqb, leb-true, ltb-true, ltb-false, le-ltb}
 use Rattle.model.specs.declared.{Record.Record, Value.Value}
 use Rattle.model.specs.declared.BaseTerm.the-variants.{Lowest, Highest, Around, Between, Pos, Neg, PosNeg, PosPos}
 use Rattle.model.specs.declared.BaseTerm.the-variants.{Explicit, Any}
@@ -15,8 +15,8 @@ use Rattle.model.specs.declared.CompoundTerm.the-variants.{Joined, Dual}
 use Rattle.model.specs.declared.Record.the-variants.{Base, Compound, Unknown}
 use Rattle.model.specs.Record.{recordOf}
 use Rattle.model.specs.Check.{filler}
-use Rattle.laws.specs.Bools.{on-or-off}
-use Rattle.table.specs.Filler.{mustBeZero, rowOf, zeroRow}
+use Rattle.laws.specs.Bools.{on-or-off, and-l, and-r}
+use Rattle.table.specs.Filler.{mustBeZero, inList, rowOf, zeroRow}
 
 -- The fields that must be zero, one by one, are the model's FILLER.
 pub filler-fields : (r : Record) (p q s u v : Bool)
@@ -48,50 +48,61 @@ zero-others : (kind p q : ℕ) (u v : ℤ) → eqb kind 0 ≡ false
 unfolding recordOf
 zero-others kind p q u v e = rw e (simp zero-cond)
 
-zero-unknown : (kind p q : ℕ) (u v : ℤ) → 20 ≤ kind → mustBeZero (recordOf kind p q u v) ≡ mustBeZero Unknown
-unfolding recordOf
-zero-unknown kind p q u v h =
+-- A kind that is not in the list has no field that must be zero.
+pub zero-unknown : (kind p q : ℕ) (u v : ℤ) → inList kind ≡ false → mustBeZero (recordOf kind p q u v) ≡ mustBeZero Unknown
+unfolding recordOf inList
+zero-unknown kind p q u v out =
     simp (
-      ne-eqb kind 0 (λ e. omega arith),
-      ne-eqb kind 1 (λ e. omega arith),
-      ne-eqb kind 2 (λ e. omega arith),
-      ne-eqb kind 3 (λ e. omega arith),
-      ne-eqb kind 4 (λ e. omega arith),
-      ne-eqb kind 5 (λ e. omega arith),
-      ne-eqb kind 6 (λ e. omega arith),
-      ne-eqb kind 7 (λ e. omega arith),
-      ne-eqb kind 8 (λ e. omega arith),
-      ne-eqb kind 9 (λ e. omega arith),
-      ne-eqb kind 10 (λ e. omega arith),
-      ne-eqb kind 16 (λ e. omega arith),
-      ne-eqb kind 17 (λ e. omega arith),
-      ne-eqb kind 18 (λ e. omega arith),
-      ne-eqb kind 19 (λ e. omega arith),
+      other 0 refl,
+      other 1 refl,
+      other 2 refl,
+      other 3 refl,
+      other 4 refl,
+      other 5 refl,
+      other 6 refl,
+      other 7 refl,
+      other 8 refl,
+      other 9 refl,
+      other 10 refl,
+      other 16 refl,
+      other 17 refl,
+      other 18 refl,
+      other 19 refl,
     )
+  where
+    other : (n : ℕ) → inList n ≡ true → eqb kind n ≡ false
+    other n is = ne-eqb kind n (λ e. true≢false (sym is ∙ ap inList (sym e) ∙ out))
+
+-- A kind of the list that is none of the first 11 is one of 16 to 19.
+pub in-second : (kind : ℕ) → inList kind ≡ true → 11 ≤ kind → (16 ≤ kind) × (kind < 20)
+unfolding inList
+in-second kind is h =
+    let b : (leb 16 kind && ltb kind 20) ≡ true = rw (le-ltb kind 11 h) at is in
+    (leb-true 16 kind (and-l _ (ltb kind 20) b), ltb-true kind 20 (and-r (leb 16 kind) _ b))
 
 zero-value : (p q : ℕ) (u v : ℤ) → zeroRow (rowOf 0 p) ≡ mustBeZero (recordOf 0 p q u v)
 unfolding rowOf recordOf
 zero-value p q u v = ⊎-elim (λ e. rw e) (λ e. rw e) (on-or-off (eqb p 4))
 
-row-in : (kind p : ℕ) → eqb kind 0 ≡ false → ltb kind 20 ≡ true → rowOf kind p ≡ kind
+row-low : (kind p : ℕ) → eqb kind 0 ≡ false → ltb kind 11 ≡ true → rowOf kind p ≡ kind
 unfolding rowOf
-row-in kind p e l = rw (e, l)
+row-low kind p e l = rw (e, l)
 
-row-out : (kind p : ℕ) → eqb kind 0 ≡ false → ltb kind 20 ≡ false → rowOf kind p ≡ 11
+row-high : (kind p : ℕ) → eqb kind 0 ≡ false → ltb kind 11 ≡ false → rowOf kind p ≡ kind - 4
 unfolding rowOf
-row-out kind p e l = rw (e, l)
-
-zero-none : zeroRow 11 ≡ mustBeZero Unknown
-unfolding recordOf
-zero-none = refl
+row-high kind p e l = rw (e, l)
 
 -- The row of the constant table has them.
-pub zero-rows : (kind p q : ℕ) (u v : ℤ) → zeroRow (rowOf kind p) ≡ mustBeZero (recordOf kind p q u v)
-zero-rows kind p q u v = ⊎-elim (λ e. rw (eqb-true kind 0 e) (zero-value p q u v)) term (on-or-off (eqb kind 0))
+pub zero-rows : (kind p q : ℕ) (u v : ℤ) → inList kind ≡ true → zeroRow (rowOf kind p) ≡ mustBeZero (recordOf kind p q u v)
+zero-rows kind p q u v is =
+    ⊎-elim (λ e. rw (eqb-true kind 0 e) (zero-value p q u v)) (λ e. ⊎-elim (low e) (high e) (on-or-off (ltb kind 11))) (on-or-off (eqb kind 0))
   where
-    term : eqb kind 0 ≡ false → zeroRow (rowOf kind p) ≡ mustBeZero (recordOf kind p q u v)
-    term e =
-        ⊎-elim
-        (λ l. ap zeroRow (row-in kind p e l) ∙ rw (ne-eqb kind 20 (λ q. omega (arith, ltb-true))) (zero-others kind p q u v e))
-        (λ l. ap zeroRow (row-out kind p e l) ∙ zero-none ∙ sym (zero-unknown kind p q u v (ltb-false kind 20 l)))
-        (on-or-off (ltb kind 20))
+    low : eqb kind 0 ≡ false → ltb kind 11 ≡ true → zeroRow (rowOf kind p) ≡ mustBeZero (recordOf kind p q u v)
+    low e l = ap zeroRow (row-low kind p e l) ∙ rw (ne-eqb kind 11 (λ z. omega (arith, ltb-true kind 11 l)), l) (zero-others kind p q u v e)
+
+    high : eqb kind 0 ≡ false → ltb kind 11 ≡ false → zeroRow (rowOf kind p) ≡ mustBeZero (recordOf kind p q u v)
+    high e l =
+        let h = in-second kind is (ltb-false kind 11 l) in
+        let same : kind - 4 + 4 ≡ kind = omega (arith, h .0) in
+        ap zeroRow (row-high kind p e l)
+        ∙ rw (ne-eqb (kind - 4) 11 (λ z. omega (arith, h .0)), le-ltb (kind - 4) 11 (omega (arith, h .0)), same) (zero-others kind p q u v e)

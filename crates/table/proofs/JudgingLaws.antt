@@ -10,15 +10,9 @@ use Rattle.model.specs.Replies.{refusal}
 use Rattle.model.specs.Check.{refuseIf, failsBounds, failsApart}
 use Rattle.laws.specs.ValueRules.{no-crowd, no-clash, no-loop}
 use Rattle.records.proofs.ByKind.{value-of}
-use Rattle.table.specs.Passing.{Cleared}
-use Rattle.table.specs.Judging.{refuseOr, judgeFields, judgeRun, judgeShape}
+use Rattle.table.specs.Judging.{refuseOr, judgeRun, judgeShape}
 use Rattle.table.proofs.StepsLaws.{then-end}
 use Rattle.table.proofs.ApartLaws.{apart-none}
-
--- None of 3 to 8 holds: the chain passes.
-pub fields-cleared : (table : List ℕ) (columns k : ℕ) → Cleared table columns k → judgeFields table columns k Verdict.Passed ≡ Verdict.Passed
-unfolding judgeFields
-fields-cleared table columns k c = rw (c .kind, c .filler, c .column, c .part, c .reused, c .stray)
 
 -- 12 is for BETWEEN alone, and 13 for BOTH.
 pub shape-bounds : (table : List ℕ) (k : ℕ) → eqb (kindAt table k) 18 ≡ false

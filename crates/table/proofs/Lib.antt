@@ -1,7 +1,6 @@
 pub mod Constant
 pub mod FillerRows
 pub mod Paths
-pub mod PassingLaws
 pub mod Carried
 pub mod StepsLaws
 pub mod Fielded

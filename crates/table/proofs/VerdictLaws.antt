@@ -21,9 +21,9 @@ use Rattle.laws.specs.AcceptedTable.{accepted-table}
 use Rattle.laws.specs.Terms.{terms-below}
 use Rattle.terms.specs.Columns.{maskBelow}
 use Rattle.terms.proofs.MaskLoop.{masks-columns}
-use Rattle.table.specs.Passing.{freeAt, Carried}
+use Rattle.table.specs.Carried.{Carried}
 use Rattle.table.proofs.Fielded.{column-more}
-use Rattle.table.specs.Verdict.{looseIn, recordsVerdict, Summed}
+use Rattle.table.specs.Verdict.{looseIn, looseBy, recordsVerdict, Summed}
 
 pub width-ok : (columns : ℕ) → failsWidth columns ≡ false → columns ≤ 8
 unfolding failsWidth
@@ -45,24 +45,20 @@ pub verdict-steps : (table : List ℕ) (columns : ℕ)
 unfolding tableVerdict verdictBy recordsVerdict failsLoose looseIn topOf recordCount
 verdict-steps table columns = refl
 
--- LOOSE by what the check carries up to the end: a free term other than the last.
-other-order : (t a b : Bool) → ((t && a) && b) ≡ ((t && b) && a)
-other-order true a b = and-comm a b
-other-order false a b = refl
-
-pub loose-is : (table : List ℕ) (n near : ℕ) (free : List Bool) → n ≤ 128 → Carried table n near free → (k : ℕ) → k < n
-    → (getD free k false && not (eqb k near)) ≡ looseIn table n k
-unfolding looseIn freeAt
-loose-is table n near free few c k h =
-    rw (c .each k (omega arith), lt-ltb k n h, c .nearest) (other-order (isTerm (recordAt table k)) (not (isPart table n k)) (not (eqb k (nearestTerm table n))))
+-- LOOSE by what the check carries up to the end.
+pub loose-is : (table : List ℕ) (n near : ℕ) (terms used : List Bool) → n ≤ 128 → Carried table n near terms used → (k : ℕ) → k < n
+    → looseBy terms used near k ≡ looseIn table n k
+unfolding looseBy looseIn
+loose-is table n near terms used few c k h =
+    rw (c .termsBelow k (omega arith), c .usedBelow k (omega arith), lt-ltb k n h, c .nearest)
 
 -- The records passed: the verdict is that on LOOSE.
-pub records-loose : (table : List ℕ) (columns n near : ℕ) (free : List Bool) → n ≤ 128 → Carried table n near free
+pub records-loose : (table : List ℕ) (columns n near : ℕ) (terms used : List Bool) → n ≤ 128 → Carried table n near terms used
     → eachBelow n (judge table columns) ≡ Verdict.Passed
-    → eachBelow n (λ (k : ℕ). refuseIf (getD free k false && not (eqb k near)) (refusal 14 k)) ≡ recordsVerdict table columns n
+    → eachBelow n (λ (k : ℕ). refuseIf (looseBy terms used near k) (refusal 14 k)) ≡ recordsVerdict table columns n
 unfolding recordsVerdict
-records-loose table columns n near free few c passed =
-    each-same _ _ n (λ k h. ap (λ (b : Bool). refuseIf b (refusal 14 k)) (loose-is table n near free few c k h))
+records-loose table columns n near terms used few c passed =
+    each-same _ _ n (λ k h. ap (λ (b : Bool). refuseIf b (refusal 14 k)) (loose-is table n near terms used few c k h))
     ∙ sym (then-next (eachBelow n (judge table columns)) _ passed)
 
 -- One record is refused: the verdict is that on it.

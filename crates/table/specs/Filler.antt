@@ -1,8 +1,8 @@
 -- FILLER as a table: which of p, q, s, u and v must be zero.
-use mathlib.Core.Bool.{Bool, true, false, not, cond, _&&_}
+use mathlib.Core.Bool.{Bool, true, false, not, cond, _&&_, _||_}
 use mathlib.Core.List.{List, [], _∷_}
-use Prim.Native.Nat.{ℕ}
-use lib.Dec.{eqb, ltb}
+use Prim.Native.Nat.{ℕ, _+_, _-_}
+use lib.Dec.{eqb, ltb, leb}
 use lib.IntN.{pos}
 use Rattle.model.specs.declared.Record.{Record}
 use Rattle.model.specs.declared.BaseTerm.the-variants.{Lowest, Highest, Around, Between, Pos, Neg, PosNeg, PosPos}
@@ -31,11 +31,16 @@ mustBeZero (Compound (Joined op left right)) = false ∷ false ∷ true ∷ true
 mustBeZero (Compound (Dual part)) = onlyP
 mustBeZero Unknown = false ∷ false ∷ false ∷ false ∷ false ∷ []
 
--- The constant table's row for a kind and a role: 20 for an edge, 11 (no kind) for every kind that is not in the list.
+-- The kinds that there are.
+unfoldable pub inList : ℕ → Bool
+inList kind = ltb kind 11 || (leb 16 kind && ltb kind 20)
+
+-- The constant table's row for such a kind and a role: 0 to 10 by their numbers, then an edge, then 16 to 19.
 unfoldable pub rowOf : ℕ → ℕ → ℕ
-rowOf kind role = cond (eqb kind 0 && eqb role 4) 20 (cond (ltb kind 20) kind 11)
+rowOf kind role = cond (eqb kind 0 && eqb role 4) 11 (cond (ltb kind 11) kind (kind - 4))
 
 -- What stands in it.
 abbrev pub zeroRow : ℕ → List Bool
 zeroRow row =
-    cond (eqb row 20) (mustBeZero (recordOf 0 4 0 (pos 0) (pos 0))) (mustBeZero (recordOf row 0 0 (pos 0) (pos 0)))
+    cond (eqb row 11) (mustBeZero (recordOf 0 4 0 (pos 0) (pos 0)))
+    (cond (ltb row 11) (mustBeZero (recordOf row 0 0 (pos 0) (pos 0))) (mustBeZero (recordOf (row + 4) 0 0 (pos 0) (pos 0))))

@@ -1,4 +1,4 @@
--- One record judged in steps: 3 to 8 of any bytes; then 9 to 13, which rest on 3 to 8 and on the records before.
+-- One record judged in steps: 3 to 8; then 9 to 13, which rest on 3 to 8 and on the records before.
 use mathlib.Core.Path.{_≡_}
 use mathlib.Core.Bool.{Bool}
 use mathlib.Core.List.{List}
@@ -8,7 +8,7 @@ use Rattle.model.specs.Record.{kindAt, recordAt}
 use Rattle.model.specs.Replies.{refusal}
 use Rattle.model.specs.Check.{refuseIf, _then_, eachBelow, judge, failsKind, failsFiller, failsColumn, failsPart}
 use Rattle.model.specs.Check.{failsReused, failsStray, failsCrowd, failsClash, failsLoop, failsBounds, failsApart}
-use Rattle.table.specs.Passing.{Met}
+use Rattle.table.specs.Carried.{Carried}
 
 -- One rule, then the verdict of the rules after it.
 abbrev pub refuseOr : Bool → Refusal → Verdict → Verdict
@@ -42,9 +42,9 @@ pub record Reached (table : List ℕ) (columns k : ℕ) : Type 0 where
   pub passed : eachBelow k (judge table columns) ≡ Verdict.Passed
 
 -- It comes with what the check carries up to it.
-pub record Brought (table : List ℕ) (columns k near : ℕ) (free : List Bool) : Type 0 where
+pub record Brought (table : List ℕ) (columns k near : ℕ) (terms used : List Bool) : Type 0 where
   pub reached : Reached table columns k
-  pub met : Met table k near free
+  pub carried : Carried table k near terms used
 
 -- It passed 3 to 8 too.
 pub record Fielded (table : List ℕ) (columns k : ℕ) : Type 0 where

@@ -1,5 +1,5 @@
 pub mod Filler
 pub mod Rules
-pub mod Passing
+pub mod Carried
 pub mod Judging
 pub mod Verdict

@@ -1,9 +1,9 @@
 -- The records in order with their number handed in, and what the summary of an accepted table rests on.
-use mathlib.Core.Bool.{Bool, not, _&&_}
+use mathlib.Core.Bool.{Bool, false, not, _&&_}
 use mathlib.Core.List.{List}
 use Prim.Native.Nat.{ℕ, _*_, _<_, _≤_}
 use lib.Dec.{eqb}
-use lib.ListN.{length}
+use lib.ListN.{length, getD}
 use Rattle.model.specs.declared.Verdict.{Verdict}
 use Rattle.model.specs.Record.{recordCount, recordAt, isTerm, nearestTerm}
 use Rattle.model.specs.Replies.{refusal}
@@ -13,6 +13,10 @@ use Rattle.terms.specs.Columns.{Narrow}
 -- 14 LOOSE, of the first n records.
 unfoldable pub looseIn : List ℕ → ℕ → ℕ → Bool
 looseIn table n k = isTerm (recordAt table k) && not (eqb k (nearestTerm table n)) && not (isPart table n k)
+
+-- The same by what is carried up to the end: a term other than the nearest that is no part.
+unfoldable pub looseBy : List Bool → List Bool → ℕ → ℕ → Bool
+looseBy terms used near k = getD terms k false && not (eqb k near) && not (getD used k false)
 
 -- The first n records for 3 to 13, then for 14.
 unfoldable pub recordsVerdict : List ℕ → ℕ → ℕ → Verdict

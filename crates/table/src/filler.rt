@@ -6,13 +6,14 @@ use records::record::s_at;
 use records::record::u_at;
 use records::record::v_at;
 ghost use mathlib.Core.Path.{_≡_};
+ghost use mathlib.Core.Bool.{true};
 ghost use Prim.Native.Nat.{_<_};
 ghost use Rattle.model.specs.Check.{failsFiller};
-ghost use Rattle.table.specs.Filler.{rowOf, zeroRow};
+ghost use Rattle.table.specs.Filler.{inList, rowOf, zeroRow};
 
-// By kind, which of p, q, s, u and v must be zero. Kinds 11 to 15 are in no list: KIND refuses them. Row 20 is for a
-// value in role 4, an edge, which fills v too.
-const MUST_BE_ZERO: [[bool; 5]; 21] = [
+// Which of p, q, s, u and v must be zero: a row for each kind of the list, and one more for a value in role 4, an edge, which
+// fills v too.
+const MUST_BE_ZERO: [[bool; 5]; 16] = [
     [false, true, true, false, true], // 0 value
     [false, true, true, true, true], // 1 LOWEST
     [false, true, true, true, true], // 2 HIGHEST
@@ -24,24 +25,23 @@ const MUST_BE_ZERO: [[bool; 5]; 21] = [
     [false, true, true, true, true], // 8 POS/POS
     [false, true, true, true, true], // 9 EXPLICIT
     [false, true, true, true, true], // 10 ANY
-    [false, false, false, false, false], // 11
-    [false, false, false, false, false], // 12
-    [false, false, false, false, false], // 13
-    [false, false, false, false, false], // 14
-    [false, false, false, false, false], // 15
+    [false, true, true, false, false], // 0 value in role 4
     [false, false, true, true, true], // 16 PARETO
     [false, false, true, true, true], // 17 PRIOR
     [false, false, true, true, true], // 18 BOTH
     [false, true, true, true, true], // 19 DUAL
-    [false, true, true, false, false], // 20 edge
 ];
 
-// Whether a field of record k that is not filled for its kind is not zero.
+// Whether a field of record k that is not filled for its kind is not zero. A kind that is not in the list is KIND's.
 pub fn fails_filler(table: &[u8], k: u8) -> bool
     ensures { λ r. ⌜ r ≡ failsFiller (now (table .entry)) k ⌝ }
 {
+    let kind = kind_at(table, k);
+    if !in_list(kind) {
+        return false;
+    }
     let p = p_at(table, k);
-    let zero = must_be_zero(row_of(kind_at(table, k), p));
+    let zero = must_be_zero(row_of(kind, p));
     (zero[0] & (p != 0))
         | (zero[1] & (q_at(table, k) != 0))
         | (zero[2] & (s_at(table, k) != 0))
@@ -49,21 +49,29 @@ pub fn fails_filler(table: &[u8], k: u8) -> bool
         | (zero[4] & (v_at(table, k) != 0))
 }
 
+// Whether there is such a kind.
+fn in_list(kind: u8) -> bool
+    ensures { λ r. ⌜ r ≡ inList kind ⌝ }
+{
+    (kind < 11) | ((16 <= kind) & (kind < 20))
+}
+
 // The table's row for a kind and, of a value, its role.
 fn row_of(kind: u8, role: u8) -> usize
-    ensures { λ r. ⌜ (r ≡ rowOf kind role) × (r < 21) ⌝ }
+    requires { ⌜ inList kind ≡ true ⌝ }
+    ensures { λ r. ⌜ (r ≡ rowOf kind role) × (r < 16) ⌝ }
 {
     if (kind == 0) & (role == 4) {
-        return 20;
+        return 11;
     }
-    if kind < 20 {
+    if kind < 11 {
         return kind as usize;
     }
-    11
+    (kind - 4) as usize
 }
 
 fn must_be_zero(row: usize) -> [bool; 5]
-    requires { ⌜ row < 21 ⌝ }
+    requires { ⌜ row < 16 ⌝ }
     ensures { λ r. ⌜ r ≡ zeroRow row ⌝ }
 {
     MUST_BE_ZERO[row]

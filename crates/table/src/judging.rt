@@ -3,40 +3,33 @@
 use crate::apart::fails_apart;
 use crate::chains::judge_fields;
 use crate::chains::judge_run;
-use crate::passing::passes_fields;
 use crate::rules::fails_bounds;
 use crate::steps::refuse_or;
 use model::Refusal;
 use model::Verdict;
 use records::record::kind_at;
 ghost use mathlib.Core.Path.{_≡_};
-ghost use Rattle.model.specs.declared.Verdict.the-variants.{Passed};
 ghost use Rattle.model.specs.Record.{nearestTerm};
 ghost use Rattle.model.specs.Check.{judge};
-ghost use Rattle.table.specs.Passing.{Met};
-ghost use Rattle.table.specs.Judging.{judgeFields, judgeRun, judgeShape, Brought, Fielded};
+ghost use Rattle.table.specs.Judging.{judgeRun, judgeShape, Brought, Fielded};
 
-// Record k, where every record below it passed; `near` and `free` are what the check carries up to it.
-pub fn judge_record(table: &[u8], columns: u8, k: u8, near: u8, free: &[bool; 256]) -> Verdict
-    requires { ⌜ Brought (now table) columns k near (now free) ⌝ }
+// Record k, where every record below it passed; `near`, `terms` and `used` are what the check carries up to it.
+pub fn judge_record(
+    table: &[u8],
+    columns: u8,
+    k: u8,
+    near: u8,
+    terms: &[bool; 256],
+    used: &[bool; 256],
+) -> Verdict
+    requires { ⌜ Brought (now table) columns k near (now terms) (now used) ⌝ }
     ensures { λ r. ⌜ r ≡ judge (now (table .entry)) columns k ⌝ }
 {
-    let first = judge_first(table, columns, k, near, free);
+    let first = judge_fields(table, columns, k, near, terms, used);
     match first {
         Verdict::Refused(_) => first,
         Verdict::Passed => judge_rest(table, columns, k, near),
     }
-}
-
-// 3 to 8. Rule by rule they are looked at only where the record does not pass at a glance.
-fn judge_first(table: &[u8], columns: u8, k: u8, near: u8, free: &[bool; 256]) -> Verdict
-    requires { ⌜ Met (now table) k near (now free) ⌝ }
-    ensures { λ r. ⌜ r ≡ judgeFields (now (table .entry)) columns k Passed ⌝ }
-{
-    if passes_fields(table, columns, k, near, free) {
-        return Verdict::Passed;
-    }
-    judge_fields(table, columns, k)
 }
 
 // 9 to 13: 9 to 11 are for values, 12 for BETWEEN (kind 4) and 13 for BOTH (kind 18).

@@ -3,7 +3,6 @@ mod apart;
 mod chains;
 mod filler;
 mod judging;
-mod passing;
 pub mod refusals;
 mod rules;
 mod runs;

@@ -1,25 +1,21 @@
-// The refusals of document 01 that can be told of any record of any bytes: 1 to 8 and 12, save FILLER, which stands in
-// `filler`. CLASH and LOOP, which look at a term's earlier values, stand in `runs`; CROWD in `chains`, APART in `apart`,
-// the order of all of them in `judging`, and LOOSE in `verdict`.
+// The refusals of document 01, one function each: 1 to 8 and 12, save FILLER, which stands in `filler`. PART, REUSED and STRAY
+// take what the check carries up to the record. CLASH and LOOP, which look at a term's earlier values, stand in `runs`; CROWD
+// in `chains`, APART in `apart`, the order of all of them in `judging`, and LOOSE in `verdict`.
 use model::MOST_COLUMNS;
 use model::MOST_TABLE_BYTES;
 use model::RECORD_BYTES;
 use model::Record;
-use records::parts::is_part;
-use records::parts::is_term_at;
 use records::parts::parts_at;
 use records::record::kind_at;
 use records::record::p_at;
 use records::record::record_at;
 use records::record::u_at;
 use records::record::v_at;
-use records::values::nearest_term;
 use records::values::takes_role;
 ghost use mathlib.Core.Path.{_≡_};
-ghost use mathlib.Core.Bool.{not, _&&_};
-ghost use lib.Dec.{ltb};
-ghost use Rattle.model.specs.Record.{recordAt, isTerm};
+ghost use Rattle.model.specs.Record.{nearestTerm};
 ghost use Rattle.model.specs.Check.{failsWidth, failsLength, failsKind, failsColumn, failsPart, failsReused, failsStray, failsBounds};
+ghost use Rattle.table.specs.Carried.{TermsBelow, UsedBelow};
 
 // 1 WIDTH: column count not 1 to 8.
 pub fn fails_width(columns: usize) -> bool
@@ -60,42 +56,37 @@ pub fn fails_column(columns: u8, r: Record) -> bool
     }
 }
 
-// 6 PART: part not below the record's own number, or not a term.
-pub fn fails_part(table: &[u8], k: u8) -> bool
+// 6 PART: part not below the record's own number, or not a term. `terms` are the terms below it.
+pub fn fails_part(table: &[u8], k: u8, terms: &[bool; 256]) -> bool
+    requires { ⌜ TermsBelow (now table) k (now terms) ⌝ }
     ensures { λ r. ⌜ r ≡ failsPart (now (table .entry)) k ⌝ }
 {
     let s = parts_at(table, k);
-    ((1 <= s.count) & no_term_below(table, k, s.left))
-        | ((2 <= s.count) & no_term_below(table, k, s.right))
+    let left = s.left as usize;
+    let right = s.right as usize;
+    ((1 <= s.count) & !terms[left]) | ((2 <= s.count) & !terms[right])
 }
 
-fn no_term_below(table: &[u8], k: u8, part: u8) -> bool
-    ensures { λ r. ⌜ r ≡ not (ltb part k && isTerm (recordAt (now (table .entry)) part)) ⌝ }
-{
-    !((part < k) & is_term_at(table, part))
-}
-
-// 7 REUSED: part already a part of an earlier term, or both parts the same.
-pub fn fails_reused(table: &[u8], k: u8) -> bool
+// 7 REUSED: part already a part of an earlier term, or both parts the same. `used` are the parts of earlier terms.
+pub fn fails_reused(table: &[u8], k: u8, used: &[bool; 256]) -> bool
+    requires { ⌜ UsedBelow (now table) k (now used) ⌝ }
     ensures { λ r. ⌜ r ≡ failsReused (now (table .entry)) k ⌝ }
 {
     let s = parts_at(table, k);
-    if s.count == 0 {
-        return false;
-    }
-    let left = is_part(table, k, s.left);
-    if s.count == 1 {
-        return left;
-    }
-    (left | is_part(table, k, s.right)) | (s.left == s.right)
+    let left = s.left as usize;
+    let right = s.right as usize;
+    ((1 <= s.count) & used[left]) | ((2 <= s.count) & (used[right] | (left == right)))
 }
 
-// 8 STRAY: value with no term before it, or role not taken there.
-pub fn fails_stray(table: &[u8], k: u8) -> bool
+// 8 STRAY: value with no term before it, or role not taken there. `near` is the nearest term before it.
+pub fn fails_stray(table: &[u8], k: u8, near: u8) -> bool
+    requires { ⌜ near ≡ nearestTerm (now table) k ⌝ }
     ensures { λ r. ⌜ r ≡ failsStray (now (table .entry)) k ⌝ }
 {
-    let owner = record_at(table, nearest_term(table, k));
-    (kind_at(table, k) == 0) & !takes_role(owner, p_at(table, k))
+    if kind_at(table, k) != 0 {
+        return false;
+    }
+    !takes_role(record_at(table, near), p_at(table, k))
 }
 
 // 12 BOUNDS: BETWEEN with low above up.

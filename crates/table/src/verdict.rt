@@ -12,14 +12,11 @@ use records::values::nearest_term;
 use terms::vetted::columns::count_columns;
 use terms::vetted::columns::masks;
 ghost use mathlib.Core.Path.{_≡_};
-ghost use mathlib.Core.Bool.{false, cond, not, _&&_};
-ghost use Prim.Native.Nat.{ℕ, _<_};
-ghost use lib.Dec.{eqb};
-ghost use lib.ListN.{getD};
+ghost use mathlib.Core.Bool.{cond};
+ghost use Prim.Native.Nat.{ℕ};
 ghost use Rattle.model.specs.Replies.{refusal};
 ghost use Rattle.model.specs.Check.{refuseIf, eachBelow, tableVerdict, summary};
-ghost use Rattle.table.specs.Passing.{markOf};
-ghost use Rattle.table.specs.Verdict.{Counted, recordsVerdict, Summed};
+ghost use Rattle.table.specs.Verdict.{looseBy, Counted, recordsVerdict, Summed};
 
 // What Check refuses, of any bytes and any column count.
 pub fn table_verdict(table: &[u8], columns: usize) -> Verdict
@@ -35,54 +32,48 @@ pub fn table_verdict(table: &[u8], columns: usize) -> Verdict
     judge_records(table, columns as u8, n)
 }
 
-// The first n records, from 0 upward, then 14. The nearest term, and the terms that are no part yet, are carried along, so
-// that no record is looked for again.
+// The first n records, from 0 upward, then 14. The nearest term, which records are terms and which are parts are carried
+// along, so that no record is looked for again.
 fn judge_records(table: &[u8], columns: u8, n: u8) -> Verdict
     requires { ⌜ Counted (now table) columns n ⌝ }
     ensures { λ r. ⌜ r ≡ recordsVerdict (now (table .entry)) columns n ⌝ }
 {
-    let mut free = [false; 256];
+    let mut terms = [false; 256];
+    let mut used = [false; 256];
     let mut near = 0u8;
     let mut k = 0u8;
     while k < n {
-        let v = judge_record(table, columns, k, near, &free);
+        let v = judge_record(table, columns, k, near, &terms, &used);
         if let Verdict::Refused(_) = v {
             return v;
         }
         let s = parts_at(table, k);
-        let p = mark_of(1 <= s.count, s.left);
-        let q = mark_of(2 <= s.count, s.right);
+        let left = s.left as usize;
+        let right = s.right as usize;
+        used[left] = used[left] | (1 <= s.count);
+        used[right] = used[right] | (2 <= s.count);
         let term = is_term_at(table, k);
         let at = k as usize;
-        free[p] = false;
-        free[q] = false;
-        free[at] = term;
+        terms[at] = term;
         near = nearer(term, k, near);
         k += 1;
     }
-    judge_loose(&free, n, near)
+    judge_loose(&terms, &used, n, near)
 }
 
 // 14 LOOSE, the lowest such record.
-fn judge_loose(free: &[bool; 256], n: u8, near: u8) -> Verdict
-    ensures { λ r. ⌜ r ≡ eachBelow n (λ (k : ℕ). refuseIf (getD (now (free .entry)) k false && not (eqb k near)) (refusal 14 k)) ⌝ }
+fn judge_loose(terms: &[bool; 256], used: &[bool; 256], n: u8, near: u8) -> Verdict
+    ensures { λ r. ⌜ r ≡ eachBelow n (λ (k : ℕ). refuseIf (looseBy (now (terms .entry)) (now (used .entry)) near k) (refusal 14 k)) ⌝ }
 {
     let mut k = 0u8;
     while k < n {
         let at = k as usize;
-        if free[at] & (k != near) {
+        if terms[at] & (k != near) & !used[at] {
             return Verdict::Refused(Refusal::Loose(k));
         }
         k += 1;
     }
     Verdict::Passed
-}
-
-// The place of a part among the free ones; one that is never free where there is no such part.
-fn mark_of(there: bool, part: u8) -> usize
-    ensures { λ r. ⌜ (r ≡ markOf there part) × (r < 256) ⌝ }
-{
-    if there { part as usize } else { 255 }
 }
 
 // The nearest term after record k.

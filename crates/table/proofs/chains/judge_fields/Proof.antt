@@ -9,19 +9,19 @@ record-at-requires : tie.Need-record-at-requires
 record-at-requires c κs = search needs
 
 fails-stray-requires : tie.Need-fails-stray-requires
-fails-stray-requires c κs = search needs
+fails-stray-requires c κs = c .before .before .pre .nearest
 
 refuse-or-requires : tie.Need-refuse-or-requires
 refuse-or-requires c κs = search needs
 
 fails-reused-requires : tie.Need-fails-reused-requires
-fails-reused-requires c κs = search needs
+fails-reused-requires c κs = c .before .before .before .before .pre .usedBelow
 
 refuse-or-requires-2 : tie.Need-refuse-or-requires-2
 refuse-or-requires-2 c κs = search needs
 
 fails-part-requires : tie.Need-fails-part-requires
-fails-part-requires c κs = search needs
+fails-part-requires c κs = c .before .before .before .before .before .before .pre .termsBelow
 
 refuse-or-requires-3 : tie.Need-refuse-or-requires-3
 refuse-or-requires-3 c κs = search needs

@@ -1,27 +1,46 @@
 -- `table::filler::fails_filler` meets its contract. Assumes nothing.
-use mathlib.Core.Path.{_≡_, _∙_, ap}
-use mathlib.Core.Bool.{not}
+use mathlib.Core.Path.{_≡_, sym, _∙_, ap}
+use mathlib.Core.Bool.{true, false, not}
 use lib.Dec.{eqb}
 use lib.IntN.{pos}
 use denote.Ref.{now}
 use borrow.Author.Needs.{sfits-of, needs}
+use borrow.Author.Tests.{not-true, not-false}
 use Rattle.model.specs.Bytes.{eqZ}
 use Rattle.model.specs.Record.{kindAt, pAt, qAt, sAt, uAt, vAt, recordAt, recordOf}
 use Rattle.model.specs.Check.{failsFiller}
 use Rattle.records.proofs.Signed.{is-zero}
-use Rattle.table.specs.Filler.{mustBeZero, zeroRow}
-use Rattle.table.proofs.FillerRows.{filler-fields, zero-rows}
+use Rattle.table.specs.Filler.{mustBeZero, inList, zeroRow}
+use Rattle.table.proofs.FillerRows.{filler-fields, zero-unknown, zero-rows}
 use Rattle.table.proofs.filler.fails_filler.Statement.{statement}
 use Rattle.table.proofs.filler.fails_filler.Tie as tie
-
-p-at-requires : tie.Need-p-at-requires
-p-at-requires c κs = search needs
 
 kind-at-requires : tie.Need-kind-at-requires
 kind-at-requires c κs = search needs
 
+in-list-requires : tie.Need-in-list-requires
+in-list-requires c κs = search needs
+
+returns : tie.Need-returns
+unfolding failsFiller recordAt
+returns c =
+    let i = c .before in
+    let n = i .before in
+    let a = n .before .before .args in
+    let t = now (a .table) in
+    let k = a .k in
+    let out : inList (kindAt t k) ≡ false = rw (← (n .kind-at .ensures), ← (i .in-list .ensures)) (not-true _ (c .if1 .taken)) in
+    sym (sym (filler-fields (recordAt t k) (not (eqb (pAt t k) 0)) (not (eqb (qAt t k) 0)) (not (eqb (sAt t k) 0)) (not (eqZ (uAt t k) (pos 0))) (not (eqZ (vAt t k) (pos 0))))
+    ∙ rw (zero-unknown (kindAt t k) (pAt t k) (qAt t k) (uAt t k) (vAt t k) out))
+
+p-at-requires : tie.Need-p-at-requires
+p-at-requires c κs = search needs
+
 row-of-requires : tie.Need-row-of-requires
-row-of-requires c κs = search needs
+row-of-requires c κs =
+    let e = c .before in
+    let i = e .before in
+    rw (← (i .in-list .ensures)) (not-false _ (e .if1 .left))
 
 must-be-zero-requires : tie.Need-must-be-zero-requires
 must-be-zero-requires c κs = search needs
@@ -53,31 +72,37 @@ array-read-result-5 c = search needs
 v-at-requires : tie.Need-v-at-requires
 v-at-requires c κs = search needs
 
-returns : tie.Need-returns
+returns-2 : tie.Need-returns-2
 unfolding failsFiller recordAt
-returns c =
+returns-2 c =
     let v = c .v-at in
     let u = c .before .u-at in
     let s = c .before .before .s-at in
     let q = c .before .before .before .q-at in
     let m = c .before .before .before .before in
     let row = m .before in
-    let kind = row .before in
-    let p = kind .before in
-    let a = p .before .before .args in
+    let p = row .before in
+    let e = p .before in
+    let i = e .before in
+    let n = i .before in
+    let a = n .before .before .args in
     let t = now (a .table) in
-    let e : m .must-be-zero .result ≡ mustBeZero (recordOf (kindAt t (a .k)) (pAt t (a .k)) (qAt t (a .k)) (uAt t (a .k)) (vAt t (a .k))) =
+    let k = a .k in
+    let is : inList (kindAt t k) ≡ true = rw (← (n .kind-at .ensures), ← (i .in-list .ensures)) (not-false _ (e .if1 .left)) in
+    let zero : m .must-be-zero .result ≡ mustBeZero (recordOf (kindAt t k) (pAt t k) (qAt t k) (uAt t k) (vAt t k)) =
     m .must-be-zero .ensures ∙ ap zeroRow (row .row-of .ensures .0)
-    ∙ rw (kind .kind-at .ensures, p .p-at .ensures) (zero-rows (kindAt t (a .k)) (pAt t (a .k)) (qAt t (a .k)) (uAt t (a .k)) (vAt t (a .k))) in
-    rw (e, is-zero (sfits-of (u .ok)), is-zero (sfits-of (v .ok)), q .ensures, s .ensures, u .ensures, v .ensures, p .p-at .ensures)
-    (filler-fields (recordAt t (a .k)) (not (eqb (pAt t (a .k)) 0)) (not (eqb (qAt t (a .k)) 0)) (not (eqb (sAt t (a .k)) 0)) (not (eqZ (uAt t (a .k)) (pos 0))) (not (eqZ (vAt t (a .k)) (pos 0))))
+    ∙ rw (n .kind-at .ensures, p .p-at .ensures) (zero-rows (kindAt t k) (pAt t k) (qAt t k) (uAt t k) (vAt t k) is) in
+    rw (zero, is-zero (sfits-of (u .ok)), is-zero (sfits-of (v .ok)), q .ensures, s .ensures, u .ensures, v .ensures, p .p-at .ensures)
+    (filler-fields (recordAt t k) (not (eqb (pAt t k) 0)) (not (eqb (qAt t k) 0)) (not (eqb (sAt t k) 0)) (not (eqZ (uAt t k) (pos 0))) (not (eqZ (vAt t k) (pos 0))))
 
 pub fails-filler-spec : {M : Type 1} → statement M
 fails-filler-spec =
     tie.close
     (tie.spec
-    p-at-requires
     kind-at-requires
+    in-list-requires
+    returns
+    p-at-requires
     row-of-requires
     must-be-zero-requires
     array-read-result
@@ -89,4 +114,4 @@ fails-filler-spec =
     u-at-requires
     array-read-result-5
     v-at-requires
-    returns)
+    returns-2)

@@ -15,7 +15,7 @@ array-copy-out-result c = search needs
 
 returns : tie.Need-returns
 unfolding recordOf
-returns c = rule-at zeroRow 21 (c .before .args .row) [] (search needs)
+returns c = rule-at zeroRow 16 (c .before .args .row) [] (search needs)
 
 pub must-be-zero-spec : {M : Type 1} → statement M
 must-be-zero-spec = tie.close (tie.spec mul-result array-copy-out-result returns)

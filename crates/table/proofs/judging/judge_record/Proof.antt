@@ -6,8 +6,8 @@ use Rattle.table.proofs.StepsLaws.{judge-after}
 use Rattle.table.proofs.judging.judge_record.Statement.{statement}
 use Rattle.table.proofs.judging.judge_record.Tie as tie
 
-judge-first-requires : tie.Need-judge-first-requires
-judge-first-requires c κs = c .before .pre .met
+judge-fields-requires : tie.Need-judge-fields-requires
+judge-fields-requires c κs = c .before .pre .carried
 
 enum-told : tie.Need-enum-told
 enum-told c = search needs
@@ -19,14 +19,14 @@ judge-rest-requires : tie.Need-judge-rest-requires
 judge-rest-requires c κs =
     let f = c .before .before in
     let s = f .before .before in
-    (record { reached = s .pre .reached; fields = sym (f .judge-first .ensures) ∙ c .enum-told2 .given .1 }, s .pre .met .carried .nearest)
+    (record { reached = s .pre .reached; fields = sym (f .judge-fields .ensures) ∙ c .enum-told2 .given .1 }, s .pre .carried .nearest)
 
 returns : tie.Need-returns
 returns c =
     let f = c .before .before in
     let s = f .before .before in
     let e = c .enum-told .given .1 in
-    e ∙ sym (judge-after (now (s .args .table)) (s .args .columns) (s .args .k) _ (sym (f .judge-first .ensures) ∙ e))
+    e ∙ sym (judge-after (now (s .args .table)) (s .args .columns) (s .args .k) _ (sym (f .judge-fields .ensures) ∙ e))
 
 returns-2 : tie.Need-returns-2
 returns-2 c =
@@ -34,13 +34,13 @@ returns-2 c =
     let f = e .before .before in
     let s = f .before .before in
     c .judge-rest .ensures
-    ∙ sym (judge-after (now (s .args .table)) (s .args .columns) (s .args .k) _ (sym (f .judge-first .ensures) ∙ e .enum-told2 .given .1))
+    ∙ sym (judge-after (now (s .args .table)) (s .args .columns) (s .args .k) _ (sym (f .judge-fields .ensures) ∙ e .enum-told2 .given .1))
 
 pub judge-record-spec : {M : Type 1} → statement M
 judge-record-spec =
     tie.close
     (tie.spec
-    judge-first-requires
+    judge-fields-requires
     enum-told
     enum-told-2
     judge-rest-requires

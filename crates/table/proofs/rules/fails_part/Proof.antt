@@ -16,21 +16,35 @@ use Rattle.table.proofs.rules.fails_part.Tie as tie
 parts-at-requires : tie.Need-parts-at-requires
 parts-at-requires c κs = search needs
 
-no-term-below-requires : tie.Need-no-term-below-requires
-no-term-below-requires c κs = search needs
+cast-left : tie.Need-cast-left
+cast-left c = search needs
 
-no-term-below-requires-2 : tie.Need-no-term-below-requires-2
-no-term-below-requires-2 c κs = search needs
+cast-right : tie.Need-cast-right
+cast-right c = search needs
+
+element-copy-out-result : tie.Need-element-copy-out-result
+element-copy-out-result c = search needs
+
+element-copy-out-result-2 : tie.Need-element-copy-out-result-2
+element-copy-out-result-2 c = search needs
 
 returns : tie.Need-returns
 unfolding failsPart
 returns c =
-    let s = c .before .before .before .before in
-    let a = s .before .before .args in
+    let s = c .before .before .before .before .before .before in
+    let g = s .before .before in
     let p = s .parts-at .result in
-    let test : ℕ → Bool = λ part. not (ltb part (a .k) && isTerm (recordAt (now (a .table)) part)) in
-    rw (c .before .before .no-term-below .ensures, c .no-term-below2 .ensures) (any-parts (p .count) (p .left) (p .right) test ∙ ap (λ (l : List ℕ). anyIn l test) (s .parts-at .ensures))
+    let test : ℕ → Bool = λ part. not (ltb part (g .args .k) && isTerm (recordAt (now (g .args .table)) part)) in
+    rw (g .pre (p .left) (search needs), g .pre (p .right) (search needs))
+    (any-parts (p .count) (p .left) (p .right) test ∙ ap (λ (l : List ℕ). anyIn l test) (s .parts-at .ensures))
 
 pub fails-part-spec : {M : Type 1} → statement M
 fails-part-spec =
-    tie.close (tie.spec parts-at-requires no-term-below-requires no-term-below-requires-2 returns)
+    tie.close
+    (tie.spec
+    parts-at-requires
+    cast-left
+    cast-right
+    element-copy-out-result
+    element-copy-out-result-2
+    returns)

@@ -1,52 +1,48 @@
 -- `table::rules::fails_reused` meets its contract. Assumes nothing.
-use mathlib.Core.Path.{sym}
-use Prim.Native.Nat.{_≤_}
-use native.Mathlib.Omega.{arith}
+use mathlib.Core.Path.{_∙_, ap}
+use mathlib.Core.Bool.{_||_}
+use mathlib.Core.List.{List}
+use Prim.Native.Nat.{ℕ}
 use denote.Ref.{now}
 use borrow.Author.Needs.{needs}
-use Rattle.model.specs.Check.{isPart, failsReused}
-use Rattle.records.proofs.Lists.{reused-none, reused-one, reused-two}
+use Rattle.model.specs.Search.{anyIn}
+use Rattle.model.specs.Check.{isPart, twice, failsReused}
+use Rattle.records.proofs.Lists.{reused-parts}
 use Rattle.table.proofs.rules.fails_reused.Statement.{statement}
 use Rattle.table.proofs.rules.fails_reused.Tie as tie
 
 parts-at-requires : tie.Need-parts-at-requires
 parts-at-requires c κs = search needs
 
+cast-left : tie.Need-cast-left
+cast-left c = search needs
+
+cast-right : tie.Need-cast-right
+cast-right c = search needs
+
+element-copy-out-result : tie.Need-element-copy-out-result
+element-copy-out-result c = search needs
+
+element-copy-out-result-2 : tie.Need-element-copy-out-result-2
+element-copy-out-result-2 c = search needs
+
 returns : tie.Need-returns
 unfolding failsReused
 returns c =
-    let s = c .before .before in
-    let a = s .before .before .args in
+    let s = c .before .before .before .before .before .before in
+    let g = s .before .before in
     let p = s .parts-at .result in
-    rw (← (s .parts-at .ensures), c .if1 .taken) (sym (reused-none (p .left) (p .right) (isPart (now (a .table)) (a .k))))
-
-is-part-requires : tie.Need-is-part-requires
-is-part-requires c κs = search needs
-
-returns-2 : tie.Need-returns-2
-unfolding failsReused
-returns-2 c =
-    let l = c .before .before in
-    let s = l .before .before .before in
-    let a = s .before .before .args in
-    let p = s .parts-at .result in
-    rw (← (s .parts-at .ensures), c .if2 .taken, l .is-part .ensures) (sym (reused-one (p .left) (p .right) (isPart (now (a .table)) (a .k))))
-
-is-part-requires-2 : tie.Need-is-part-requires-2
-is-part-requires-2 c κs = search needs
-
-returns-3 : tie.Need-returns-3
-unfolding failsReused
-returns-3 c =
-    let r = c .before in
-    let l = r .before .before .before in
-    let s = l .before .before .before in
-    let a = s .before .before .args in
-    let p = s .parts-at .result in
-    let h : 2 ≤ p .count = omega (arith, r .before .if2 .left, l .before .if1 .left) in
-    rw (← (s .parts-at .ensures), l .is-part .ensures, r .is-part2 .ensures) (sym (reused-two (p .count) (p .left) (p .right) (isPart (now (a .table)) (a .k)) h))
+    let test = isPart (now (g .args .table)) (g .args .k) in
+    rw (g .pre (p .left) (search needs), g .pre (p .right) (search needs))
+    (reused-parts (p .count) (p .left) (p .right) test ∙ ap (λ (l : List ℕ). anyIn l test || twice l) (s .parts-at .ensures))
 
 pub fails-reused-spec : {M : Type 1} → statement M
 fails-reused-spec =
     tie.close
-    (tie.spec parts-at-requires returns is-part-requires returns-2 is-part-requires-2 returns-3)
+    (tie.spec
+    parts-at-requires
+    cast-left
+    cast-right
+    element-copy-out-result
+    element-copy-out-result-2
+    returns)

@@ -10,30 +10,31 @@ use borrow.Author.Needs.{needs}
 use Rattle.model.specs.declared.Verdict.{Verdict}
 use Rattle.model.specs.Check.{eachBelow, judge}
 use Rattle.laws.specs.Accepted.{judged-below}
-use Rattle.table.specs.Passing.{Carried}
+use Rattle.table.specs.Carried.{Carried}
 use Rattle.table.proofs.Carried.{carried-none, carried-more}
 use Rattle.table.proofs.VerdictLaws.{records-loose, records-refused}
 use Rattle.table.proofs.verdict.judge_records.Statement.{statement}
 use Rattle.table.proofs.verdict.judge_records.Tie as tie
 
 abbrev Inv-loop : tie.InvT-loop
-Inv-loop table columns n free₀ near₀ k₀ free near k =
-    (k ≤ n) × (length free ≡ 256) × (eachBelow k (judge table columns) ≡ Verdict.Passed) × Carried table k near free
+Inv-loop table columns n terms₀ used₀ near₀ k₀ terms used near k =
+    (k ≤ n) × (length terms ≡ 256) × (length used ≡ 256) × (eachBelow k (judge table columns) ≡ Verdict.Passed)
+    × Carried table k near terms used
 
 abbrev μ-loop : tie.MeasureT-loop
-μ-loop table columns n free₀ near₀ k₀ free near k = n - k
+μ-loop table columns n terms₀ used₀ near₀ k₀ terms used near k = n - k
 
 loop-holds : tie.Need-loop-holds Inv-loop μ-loop
 unfolding eachBelow
-loop-holds c = (search needs, refl, refl, carried-none _)
+loop-holds c = (search needs, refl, refl, refl, carried-none _)
 
 judge-record-requires : tie.Need-judge-record-requires Inv-loop μ-loop
 judge-record-requires c κs =
-    let l = c .before .before in
+    let l = c .before .before .before in
     let s = l .before .before in
     record {
-      reached = record { few = omega (arith, s .pre .few); narrow = s .pre .narrow; passed = l .loop .inv .2 };
-      met = record { whole = omega (arith, s .pre .whole); carried = l .loop .inv .3 };
+      reached = record { few = omega (arith, s .pre .few); narrow = s .pre .narrow; passed = l .loop .inv .3 };
+      carried = l .loop .inv .4;
     }
 
 enum-told : tie.Need-enum-told Inv-loop μ-loop
@@ -42,10 +43,10 @@ enum-told c = search needs
 returns : tie.Need-returns Inv-loop μ-loop
 returns c =
     let r = c .before .before in
-    let l = r .before .before .before in
+    let l = r .before .before .before .before in
     let a = l .before .before .args in
     let e = c .enum-told .given .1 in
-    e ∙ sym (records-refused (now (a .table)) (a .columns) (a .n) (l .loop .k) _ (omega arith) (l .loop .inv .2) (sym (r .judge-record .ensures) ∙ e))
+    e ∙ sym (records-refused (now (a .table)) (a .columns) (a .n) (l .loop .k) _ (omega arith) (l .loop .inv .3) (sym (r .judge-record .ensures) ∙ e))
 
 enum-told-2 : tie.Need-enum-told-2 Inv-loop μ-loop
 enum-told-2 c = search needs
@@ -53,11 +54,23 @@ enum-told-2 c = search needs
 parts-at-requires : tie.Need-parts-at-requires Inv-loop μ-loop
 parts-at-requires c κs = search needs
 
-mark-of-requires : tie.Need-mark-of-requires Inv-loop μ-loop
-mark-of-requires c κs = search needs
+cast-left : tie.Need-cast-left Inv-loop μ-loop
+cast-left c = search needs
 
-mark-of-requires-2 : tie.Need-mark-of-requires-2 Inv-loop μ-loop
-mark-of-requires-2 c κs = search needs
+cast-right : tie.Need-cast-right Inv-loop μ-loop
+cast-right c = search needs
+
+array-read-used : tie.Need-array-read-used Inv-loop μ-loop
+array-read-used c = search needs
+
+array-write-used : tie.Need-array-write-used Inv-loop μ-loop
+array-write-used c = search needs
+
+array-read-used-2 : tie.Need-array-read-used-2 Inv-loop μ-loop
+array-read-used-2 c = search needs
+
+array-write-used-2 : tie.Need-array-write-used-2 Inv-loop μ-loop
+array-write-used-2 c = search needs
 
 is-term-at-requires : tie.Need-is-term-at-requires Inv-loop μ-loop
 is-term-at-requires c κs = search needs
@@ -65,14 +78,8 @@ is-term-at-requires c κs = search needs
 cast-at : tie.Need-cast-at Inv-loop μ-loop
 cast-at c = search needs
 
-array-write-free : tie.Need-array-write-free Inv-loop μ-loop
-array-write-free c = search needs
-
-array-write-free-2 : tie.Need-array-write-free-2 Inv-loop μ-loop
-array-write-free-2 c = search needs
-
-array-write-free-3 : tie.Need-array-write-free-3 Inv-loop μ-loop
-array-write-free-3 c = search needs
+array-write-terms : tie.Need-array-write-terms Inv-loop μ-loop
+array-write-terms c = search needs
 
 nearer-requires : tie.Need-nearer-requires Inv-loop μ-loop
 nearer-requires c κs = search needs
@@ -87,23 +94,22 @@ loop-again : tie.Need-loop-again Inv-loop μ-loop
 unfolding eachBelow
 loop-again c =
     let t = c .before in
-    let q = t .before in
-    let p = q .before .before in
-    let s = p .before .before in
+    let known = t .before .before .before .before in
+    let s = known .before in
     let e = s .before in
     let r = e .before .before in
-    let l = r .before .before .before in
+    let l = r .before .before .before .before in
     let g = l .before .before in
     let table = now (g .args .table) in
     let k = l .loop .k in
-    let passed : eachBelow (suc k) (judge table (g .args .columns)) ≡ Verdict.Passed =
-    rw (l .loop .inv .2) (sym (r .judge-record .ensures) ∙ e .enum-told2 .given .1) in
     let parts = s .parts-at .result in (
       search needs,
       simp length-set (l .loop .inv .1),
-      rw add-one passed,
-      rw (c .nearer .ensures, t .is-term-at .ensures, p .mark-of .ensures .0, q .mark-of2 .ensures .0)
-          (carried-more table (g .args .columns) k (omega (arith, g .pre .few)) (judged-below table (g .args .columns) (suc k) passed) (parts .count) (parts .left) (parts .right) (s .parts-at .ensures) (l .loop .near) (l .loop .free) (l .loop .inv .1) (rw (← (p .mark-of .ensures .0)) (p .mark-of .ensures .1)) (rw (← (q .mark-of2 .ensures .0)) (q .mark-of2 .ensures .1)) (l .loop .inv .3)),
+      simp length-set (l .loop .inv .2),
+      rw (add-one, l .loop .inv .3) (sym (r .judge-record .ensures) ∙ e .enum-told2 .given .1),
+      rw (c .nearer .ensures, t .is-term-at .ensures)
+          (carried-more table k (l .loop .near) (l .loop .terms) (l .loop .used) (l .loop .inv .4) (omega (arith, g .pre .few)) (l .loop .inv .1) (l .loop .inv .2)
+          (parts .count) (parts .left) (parts .right) (search (needs, known .struct-known .given)) (search (needs, known .struct-known .given)) (s .parts-at .ensures)),
     )
 
 judge-loose-requires : tie.Need-judge-loose-requires Inv-loop μ-loop
@@ -111,12 +117,12 @@ judge-loose-requires c κs = search needs
 
 returns-2 : tie.Need-returns-2 Inv-loop μ-loop
 returns-2 c =
-    let l = c .before .before .before in
+    let l = c .before .before .before .before in
     let g = l .before .before in
     let a = g .args in
     let e : l .loop .k ≡ a .n = omega arith in
     c .judge-loose .ensures
-    ∙ records-loose (now (a .table)) (a .columns) (a .n) (l .loop .near) (l .loop .free) (g .pre .few) (rw e at (l .loop .inv .3)) (rw e at (l .loop .inv .2))
+    ∙ records-loose (now (a .table)) (a .columns) (a .n) (l .loop .near) (l .loop .terms) (l .loop .used) (g .pre .few) (rw e at (l .loop .inv .4)) (rw e at (l .loop .inv .3))
 
 pub judge-records-spec : {M : Type 1} → statement M
 judge-records-spec =
@@ -130,13 +136,15 @@ judge-records-spec =
     returns
     enum-told-2
     parts-at-requires
-    mark-of-requires
-    mark-of-requires-2
+    cast-left
+    cast-right
+    array-read-used
+    array-write-used
+    array-read-used-2
+    array-write-used-2
     is-term-at-requires
     cast-at
-    array-write-free
-    array-write-free-2
-    array-write-free-3
+    array-write-terms
     nearer-requires
     add-k
     loop-less
