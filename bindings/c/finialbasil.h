@@ -102,7 +102,7 @@
  *   - A pointer is aligned for its element. It may be NULL only where its length is 0.
  *   - `answers` overlaps nothing else that is lent. What is only read may overlap.
  *   - Nothing else writes to lent memory while the call runs, and nothing else reads `answers`.
- *   - The stack has 1 MiB of room. No call needs more.
+ *   - The stack has 1 MiB of room. That was enough for every call on the largest inputs: measured, not proved.
  *
  * That is all. Whatever bytes and numbers come, and however large a column count or record number is, a call reads only
  * what it was lent, writes only `answers`, ends, and gives the one reply that is stated here. Calls allocate nothing,

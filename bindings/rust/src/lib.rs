@@ -42,7 +42,7 @@
 //!
 //! Nothing needs to be checked beforehand: each call vets everything it is handed, whatever the bytes and numbers are,
 //! and gives a [`Refusal`] for what it turns down. Nothing in this crate panics. The calls keep nothing, may run on
-//! several threads at once, and need at most 1 MiB of stack.
+//! several threads at once, and ran within 1 MiB of stack wherever that was measured.
 //!
 //! # Linking
 //!

@@ -1,7 +1,7 @@
 -- What the check carries goes on from a record to the next: its parts are used, and it is a term where its kind says so.
 -- Assumes nothing.
 use mathlib.Core.Path.{_≡_, refl, sym, _∙_, ap}
-use mathlib.Core.Bool.{Bool, true, false, cond, _&&_, _||_, or-false, or-assoc, and-false, and-true}
+use mathlib.Core.Bool.{Bool, true, false, cond, _&&_, _||_, or-false, or-assoc}
 use mathlib.Core.List.{List}
 use Prim.Native.Nat.{ℕ, suc, _+_, _<_}
 use native.Mathlib.Omega.{arith}
@@ -16,7 +16,7 @@ use Rattle.model.specs.Check.{isPart}
 use Rattle.laws.specs.Bools.{same-test}
 use Rattle.records.specs.Parts.{partList}
 use Rattle.records.proofs.Lists.{any-parts}
-use Rattle.table.specs.Carried.{Carried}
+use Rattle.table.specs.Carried.{marked, Carried}
 
 -- Before the first record there is no term and no part.
 pub carried-none : (table : List ℕ) → Carried table 0 0 (replicate 256 false) (replicate 256 false)
@@ -36,13 +36,21 @@ get-set a i j x l = go (eqb j i) refl
     go false e = getD-set-other a i j x false (eqb-false j i e)
 
 -- A part is marked where there is one.
-marked : (a : List Bool) (i j : ℕ) (there : Bool) → i < length a
-    → getD (set a i (getD a i false || there)) j false ≡ (getD a j false || (there && eqb j i))
-marked a i j there l = get-set a i j (getD a i false || there) l ∙ go (eqb j i) refl
+marked-at : (there : Bool) (part : ℕ) (used : List Bool) (j : ℕ) → part < length used
+    → getD (marked there part used) j false ≡ (getD used j false || (there && eqb j part))
+unfolding marked
+marked-at true part used j l = get-set used part j true l ∙ go (eqb j part) (getD used j false)
   where
-    go : (b : Bool) → eqb j i ≡ b → cond b (getD a i false || there) (getD a j false) ≡ (getD a j false || (there && b))
-    go true e = rw (eqb-true j i e, and-true there)
-    go false e = rw (and-false there) (sym (or-false (getD a j false)))
+    go : (b x : Bool) → cond b true x ≡ (x || b)
+    go true true = refl
+    go true false = refl
+    go false x = sym (or-false x)
+marked-at false part used j l = sym (or-false (getD used j false))
+
+pub marked-long : (there : Bool) (part : ℕ) (used : List Bool) → length (marked there part used) ≡ length used
+unfolding marked
+marked-long true part used = length-set used part true
+marked-long false part used = refl
 
 module _ (table : List ℕ) (k near : ℕ) (terms used : List Bool) (before : Carried table k near terms used)
     (few : k < 128) (terms-long : length terms ≡ 256) (used-long : length used ≡ 256) where
@@ -62,20 +70,20 @@ module _ (table : List ℕ) (k near : ℕ) (terms used : List Bool) (before : Ca
 
   module _ (count left right : ℕ) (l : left < 256) (r : right < 256) (parts : partList count left right ≡ partsOf (recordAt table k)) where
     abbrev once : List Bool
-    once = set used left (getD used left false || leb 1 count)
+    once = marked (leb 1 count) left used
 
-    used-more : (j : ℕ) → j < 256 → getD (set once right (getD once right false || leb 2 count)) j false ≡ isPart table (suc k) j
+    used-more : (j : ℕ) → j < 256 → getD (marked (leb 2 count) right once) j false ≡ isPart table (suc k) j
     unfolding isPart anyBelow
     used-more j h =
-        marked once right j (leb 2 count) (simp length-set (omega (arith, used-long, r)))
-        ∙ rw (marked used left j (leb 1 count) (omega (arith, used-long, l)), before .usedBelow j h)
+        marked-at (leb 2 count) right once j (rw (marked-long (leb 1 count) left used) (omega (arith, used-long, r)))
+        ∙ rw (marked-at (leb 1 count) left used j (omega (arith, used-long, l)), before .usedBelow j h)
         (or-assoc (isPart table k j) (leb 1 count && eqb j left) (leb 2 count && eqb j right)
         ∙ ap (λ (b : Bool). isPart table k j || b)
         (any-parts count left right (eqb j) ∙ ap (λ (ps : List ℕ). anyIn ps (eqb j)) parts))
 
     -- After record k.
     pub carried-more : Carried table (k + 1) (cond (isTerm (recordAt table k)) k near) (set terms k (isTerm (recordAt table k)))
-        (set once right (getD once right false || leb 2 count))
+        (marked (leb 2 count) right once)
     unfolding nearestTerm
     carried-more =
         record {

@@ -1,12 +1,11 @@
 -- The rows of the constant table are the fields that the model wants zero, kind by kind. Assumes nothing.
 use mathlib.Core.Path.{_≡_, refl, sym, _∙_, ap}
 use mathlib.Core.Logic.{⊎-elim}
-use mathlib.Core.Bool.{Bool, true, false, cond, not, _&&_, _||_, or-false, and-comm, true≢false}
+use mathlib.Core.Bool.{Bool, true, false, cond, not, _&&_, _||_, or-false, and-false, and-true, true≢false}
 use Prim.Native.Nat.{ℕ, _+_, _-_, _<_, _≤_}
 use native.Mathlib.Omega.{arith}
 use lib.Dec.{eqb, ltb, leb}
 use lib.IntN.{ℤ, pos}
-use lib.ListN.{getD}
 use borrow.Author.Tests.{eqb-true, ne-eqb, leb-true, ltb-true, ltb-false, le-ltb}
 use Rattle.model.specs.declared.{Record.Record, Value.Value}
 use Rattle.model.specs.declared.BaseTerm.the-variants.{Lowest, Highest, Around, Between, Pos, Neg, PosNeg, PosPos}
@@ -16,27 +15,35 @@ use Rattle.model.specs.declared.Record.the-variants.{Base, Compound, Unknown}
 use Rattle.model.specs.Record.{recordOf}
 use Rattle.model.specs.Check.{filler}
 use Rattle.laws.specs.Bools.{on-or-off, and-l, and-r}
-use Rattle.table.specs.Filler.{mustBeZero, inList, rowOf, zeroRow}
+use Rattle.table.specs.Filler.{hasField, mustBeZero, inList, rowOf, zeroRow}
 
 -- The fields that must be zero, one by one, are the model's FILLER.
-pub filler-fields : (r : Record) (p q s u v : Bool)
-    → (getD (mustBeZero r) 0 false && p || getD (mustBeZero r) 1 false && q || getD (mustBeZero r) 2 false && s
-    || getD (mustBeZero r) 3 false && u || getD (mustBeZero r) 4 false && v)
+pub filler-fields : (r : Record) (q s u v : Bool)
+    → (hasField (mustBeZero r) 2 && q || hasField (mustBeZero r) 4 && s
+    || hasField (mustBeZero r) 8 && u || hasField (mustBeZero r) 16 && v)
     ≡ filler r q s u v
-filler-fields (Record.Value a) p q s u v = rw (or-false (q || s)) (ap (λ (b : Bool). (q || s) || b) (and-comm (not (eqb (a .role) 4)) v))
-filler-fields (Base column Lowest) p q s u v = refl
-filler-fields (Base column Highest) p q s u v = refl
-filler-fields (Base column (Around wish)) p q s u v = rw (or-false (q || s))
-filler-fields (Base column (Between low up)) p q s u v = rw (or-false (q || s), or-false (q || s))
-filler-fields (Base column Pos) p q s u v = refl
-filler-fields (Base column Neg) p q s u v = refl
-filler-fields (Base column PosNeg) p q s u v = refl
-filler-fields (Base column PosPos) p q s u v = refl
-filler-fields (Base column Explicit) p q s u v = refl
-filler-fields (Base column Any) p q s u v = refl
-filler-fields (Compound (Joined op left right)) p q s u v = refl
-filler-fields (Compound (Dual part)) p q s u v = refl
-filler-fields Unknown p q s u v = refl
+unfolding hasField
+filler-fields (Record.Value a) q s u v = go (eqb (a .role) 4)
+  where
+    go : (edge : Bool)
+        → (hasField (cond edge 6 22) 2 && q || hasField (cond edge 6 22) 4 && s
+        || hasField (cond edge 6 22) 8 && u || hasField (cond edge 6 22) 16 && v)
+        ≡ (q || s || v && not edge)
+    go true = rw (and-false v) (or-false (q || s || false))
+    go false = rw (and-true v, or-false (q || s))
+filler-fields (Base column Lowest) q s u v = refl
+filler-fields (Base column Highest) q s u v = refl
+filler-fields (Base column (Around wish)) q s u v = rw (or-false (q || s))
+filler-fields (Base column (Between low up)) q s u v = rw (or-false (q || s), or-false (q || s))
+filler-fields (Base column Pos) q s u v = refl
+filler-fields (Base column Neg) q s u v = refl
+filler-fields (Base column PosNeg) q s u v = refl
+filler-fields (Base column PosPos) q s u v = refl
+filler-fields (Base column Explicit) q s u v = refl
+filler-fields (Base column Any) q s u v = refl
+filler-fields (Compound (Joined op left right)) q s u v = refl
+filler-fields (Compound (Dual part)) q s u v = refl
+filler-fields Unknown q s u v = refl
 
 zero-cond : (b : Bool) (x y : Record) → mustBeZero (cond b x y) ≡ cond b (mustBeZero x) (mustBeZero y)
 zero-cond true x y = refl

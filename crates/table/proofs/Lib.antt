@@ -1,6 +1,7 @@
 pub mod Constant
 pub mod FillerRows
 pub mod Paths
+pub mod Shapes
 pub mod Carried
 pub mod StepsLaws
 pub mod Fielded

@@ -1,10 +1,10 @@
 -- What the check carries from record to record, so that no rule looks for it again.
 use mathlib.Core.Path.{_≡_}
-use mathlib.Core.Bool.{Bool, false, _&&_}
+use mathlib.Core.Bool.{Bool, true, false, cond, _&&_}
 use mathlib.Core.List.{List}
 use Prim.Native.Nat.{ℕ, _<_}
 use lib.Dec.{ltb}
-use lib.ListN.{getD}
+use lib.ListN.{getD, set}
 use Rattle.model.specs.Record.{recordAt, isTerm, nearestTerm}
 use Rattle.model.specs.Check.{isPart}
 
@@ -21,3 +21,7 @@ pub record Carried (table : List ℕ) (k near : ℕ) (terms used : List Bool) : 
   pub nearest : near ≡ nearestTerm table k
   pub termsBelow : TermsBelow table k terms
   pub usedBelow : UsedBelow table k used
+
+-- The used ones with one more, where there is a part.
+unfoldable pub marked : Bool → ℕ → List Bool → List Bool
+marked there part used = cond there (set used part true) used

@@ -1,5 +1,5 @@
-// The rules of one record in two chains, 3 to 8 and 9 to 11 (document 01, "What a call turns down"), each written from its
-// last rule to its first, with what the check carries up to the record. The second asks that the first has passed.
+// The rules of one record in two chains, 3 to 8 and 9 to 11 (document 01, "What a call turns down"). The first takes what the
+// check carries up to the record; the second asks that the first has passed.
 use crate::filler::fails_filler;
 use crate::rules::fails_column;
 use crate::rules::fails_kind;
@@ -12,14 +12,16 @@ use crate::steps::refuse_or;
 use model::MOST_VALUES;
 use model::Refusal;
 use model::Verdict;
-use records::record::record_at;
+use records::record::kind_at;
+use records::record::p_at;
+use records::record::record_of;
 ghost use mathlib.Core.Path.{_≡_};
 ghost use Rattle.model.specs.declared.Verdict.the-variants.{Passed};
 ghost use Rattle.model.specs.Record.{nearestTerm};
 ghost use Rattle.table.specs.Carried.{Carried};
 ghost use Rattle.table.specs.Judging.{judgeFields, judgeRun, ValueFielded};
 
-// 3 to 8.
+// 3 to 8. KIND and COLUMN look at kind and p alone, so that no number is decoded for them.
 pub fn judge_fields(
     table: &[u8],
     columns: u8,
@@ -31,20 +33,29 @@ pub fn judge_fields(
     requires { ⌜ Carried (now table) k near (now terms) (now used) ⌝ }
     ensures { λ r. ⌜ r ≡ judgeFields (now (table .entry)) columns k Passed ⌝ }
 {
-    let r = record_at(table, k);
-    let mut v = refuse_or(
-        fails_stray(table, k, near),
-        Refusal::Stray(k),
-        Verdict::Passed,
-    );
-    v = refuse_or(fails_reused(table, k, used), Refusal::Reused(k), v);
-    v = refuse_or(fails_part(table, k, terms), Refusal::Part(k), v);
-    v = refuse_or(fails_column(columns, r), Refusal::Column(k), v);
-    v = refuse_or(fails_filler(table, k), Refusal::Filler(k), v);
-    refuse_or(fails_kind(r), Refusal::Kind(k), v)
+    let r = record_of(kind_at(table, k), p_at(table, k), 0, 0, 0);
+    if fails_kind(r) {
+        return Verdict::Refused(Refusal::Kind(k));
+    }
+    if fails_filler(table, k) {
+        return Verdict::Refused(Refusal::Filler(k));
+    }
+    if fails_column(columns, r) {
+        return Verdict::Refused(Refusal::Column(k));
+    }
+    if fails_part(table, k, terms) {
+        return Verdict::Refused(Refusal::Part(k));
+    }
+    if fails_reused(table, k, used) {
+        return Verdict::Refused(Refusal::Reused(k));
+    }
+    if fails_stray(table, k, near) {
+        return Verdict::Refused(Refusal::Stray(k));
+    }
+    Verdict::Passed
 }
 
-// 9 to 11, of a value of term `near`. LOOP looks at no more than 16 edges, so that CROWD goes first.
+// 9 to 11, of a value of term `near`, from the last rule to the first. LOOP looks at no more than 16 edges, so that CROWD goes first.
 pub fn judge_run(table: &[u8], columns: u8, k: u8, near: u8) -> Verdict
     requires { ⌜ ValueFielded (now table) columns k × (near ≡ nearestTerm (now table) k) ⌝ }
     ensures { λ r. ⌜ r ≡ judgeRun (now (table .entry)) k Passed ⌝ }

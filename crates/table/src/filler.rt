@@ -9,27 +9,35 @@ ghost use mathlib.Core.Path.{_≡_};
 ghost use mathlib.Core.Bool.{true};
 ghost use Prim.Native.Nat.{_<_};
 ghost use Rattle.model.specs.Check.{failsFiller};
-ghost use Rattle.table.specs.Filler.{inList, rowOf, zeroRow};
+ghost use Rattle.table.specs.Filler.{hasField, inList, rowOf, zeroRow};
 
-// Which of p, q, s, u and v must be zero: a row for each kind of the list, and one more for a value in role 4, an edge, which
-// fills v too.
-const MUST_BE_ZERO: [[bool; 5]; 16] = [
-    [false, true, true, false, true], // 0 value
-    [false, true, true, true, true], // 1 LOWEST
-    [false, true, true, true, true], // 2 HIGHEST
-    [false, true, true, false, true], // 3 AROUND
-    [false, true, true, false, false], // 4 BETWEEN
-    [false, true, true, true, true], // 5 POS
-    [false, true, true, true, true], // 6 NEG
-    [false, true, true, true, true], // 7 POS/NEG
-    [false, true, true, true, true], // 8 POS/POS
-    [false, true, true, true, true], // 9 EXPLICIT
-    [false, true, true, true, true], // 10 ANY
-    [false, true, true, false, false], // 0 value in role 4
-    [false, false, true, true, true], // 16 PARETO
-    [false, false, true, true, true], // 17 PRIOR
-    [false, false, true, true, true], // 18 BOTH
-    [false, true, true, true, true], // 19 DUAL
+// The fields as bits. p is filled for every kind.
+const Q: u8 = 2;
+
+const S: u8 = 4;
+
+const U: u8 = 8;
+
+const V: u8 = 16;
+
+// Which fields must be zero: a row for each kind of the list, and one more for a value in role 4, an edge, which fills v too.
+const MUST_BE_ZERO: [u8; 16] = [
+    Q + S + V, // 0 value
+    Q + S + U + V, // 1 LOWEST
+    Q + S + U + V, // 2 HIGHEST
+    Q + S + V, // 3 AROUND
+    Q + S, // 4 BETWEEN
+    Q + S + U + V, // 5 POS
+    Q + S + U + V, // 6 NEG
+    Q + S + U + V, // 7 POS/NEG
+    Q + S + U + V, // 8 POS/POS
+    Q + S + U + V, // 9 EXPLICIT
+    Q + S + U + V, // 10 ANY
+    Q + S, // 0 value in role 4
+    S + U + V, // 16 PARETO
+    S + U + V, // 17 PRIOR
+    S + U + V, // 18 BOTH
+    Q + S + U + V, // 19 DUAL
 ];
 
 // Whether a field of record k that is not filled for its kind is not zero. A kind that is not in the list is KIND's.
@@ -40,13 +48,19 @@ pub fn fails_filler(table: &[u8], k: u8) -> bool
     if !in_list(kind) {
         return false;
     }
-    let p = p_at(table, k);
-    let zero = must_be_zero(row_of(kind, p));
-    (zero[0] & (p != 0))
-        | (zero[1] & (q_at(table, k) != 0))
-        | (zero[2] & (s_at(table, k) != 0))
-        | (zero[3] & (u_at(table, k) != 0))
-        | (zero[4] & (v_at(table, k) != 0))
+    let zero = must_be_zero(row_of(kind, p_at(table, k)));
+    (has(zero, Q) & (q_at(table, k) != 0))
+        | (has(zero, S) & (s_at(table, k) != 0))
+        | (has(zero, U) & (u_at(table, k) != 0))
+        | (has(zero, V) & (v_at(table, k) != 0))
+}
+
+// Whether the field is one of these.
+fn has(fields: u8, field: u8) -> bool
+    requires { ⌜ 0 < field ⌝ }
+    ensures { λ r. ⌜ r ≡ hasField fields field ⌝ }
+{
+    fields / field % 2 == 1
 }
 
 // Whether there is such a kind.
@@ -70,7 +84,7 @@ fn row_of(kind: u8, role: u8) -> usize
     (kind - 4) as usize
 }
 
-fn must_be_zero(row: usize) -> [bool; 5]
+fn must_be_zero(row: usize) -> u8
     requires { ⌜ row < 16 ⌝ }
     ensures { λ r. ⌜ r ≡ zeroRow row ⌝ }
 {

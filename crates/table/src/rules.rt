@@ -8,7 +8,7 @@ use model::Record;
 use records::parts::parts_at;
 use records::record::kind_at;
 use records::record::p_at;
-use records::record::record_at;
+use records::record::record_of;
 use records::record::u_at;
 use records::record::v_at;
 use records::values::takes_role;
@@ -86,7 +86,7 @@ pub fn fails_stray(table: &[u8], k: u8, near: u8) -> bool
     if kind_at(table, k) != 0 {
         return false;
     }
-    !takes_role(record_at(table, near), p_at(table, k))
+    !takes_role(record_of(kind_at(table, near), 0, 0, 0, 0), p_at(table, k))
 }
 
 // 12 BOUNDS: BETWEEN with low above up.

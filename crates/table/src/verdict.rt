@@ -16,6 +16,7 @@ ghost use mathlib.Core.Bool.{cond};
 ghost use Prim.Native.Nat.{ℕ};
 ghost use Rattle.model.specs.Replies.{refusal};
 ghost use Rattle.model.specs.Check.{refuseIf, eachBelow, tableVerdict, summary};
+ghost use Rattle.table.specs.Carried.{marked};
 ghost use Rattle.table.specs.Verdict.{looseBy, Counted, recordsVerdict, Summed};
 
 // What Check refuses, of any bytes and any column count.
@@ -48,10 +49,8 @@ fn judge_records(table: &[u8], columns: u8, n: u8) -> Verdict
             return v;
         }
         let s = parts_at(table, k);
-        let left = s.left as usize;
-        let right = s.right as usize;
-        used[left] = used[left] | (1 <= s.count);
-        used[right] = used[right] | (2 <= s.count);
+        mark(1 <= s.count, s.left, &mut used);
+        mark(2 <= s.count, s.right, &mut used);
         let term = is_term_at(table, k);
         let at = k as usize;
         terms[at] = term;
@@ -74,6 +73,16 @@ fn judge_loose(terms: &[bool; 256], used: &[bool; 256], n: u8, near: u8) -> Verd
         k += 1;
     }
     Verdict::Passed
+}
+
+// A part is used, where there is one.
+fn mark(there: bool, part: u8, used: &mut [bool; 256])
+    ensures { λ _. ⌜ now (used .exit) ≡ marked there part (now (used .entry)) ⌝ }
+{
+    if there {
+        let at = part as usize;
+        used[at] = true;
+    }
 }
 
 // The nearest term after record k.

@@ -28,7 +28,7 @@ pub fn distance_between(low: i32, up: i32, x: i32) -> i64
     0
 }
 
-// ---- instances of the contract: below, at and above the wish, and from one end of the range to the other
+// ---- instances of the contract: below, at and above the wish, and from each end of the range to the other
 
 pub fn below_the_wish() -> i64
     ensures { λ r. ⌜ r ≡ pos 5 ⌝ }
@@ -48,8 +48,14 @@ pub fn above_the_wish() -> i64
     distance(24, 31)
 }
 
-pub fn end_to_end() -> i64
+pub fn least_to_most() -> i64
     ensures { λ r. ⌜ r ≡ pos 4294967295 ⌝ }
 {
     distance(2147483647, -2147483648)
+}
+
+pub fn most_to_least() -> i64
+    ensures { λ r. ⌜ r ≡ pos 4294967295 ⌝ }
+{
+    distance(-2147483648, 2147483647)
 }

@@ -10,7 +10,7 @@ use Rattle.model.specs.Bytes.{eqZ}
 use Rattle.model.specs.Record.{kindAt, pAt, qAt, sAt, uAt, vAt, recordAt, recordOf}
 use Rattle.model.specs.Check.{failsFiller}
 use Rattle.records.proofs.Signed.{is-zero}
-use Rattle.table.specs.Filler.{mustBeZero, inList, zeroRow}
+use Rattle.table.specs.Filler.{hasField, mustBeZero, inList, zeroRow}
 use Rattle.table.proofs.FillerRows.{filler-fields, zero-unknown, zero-rows}
 use Rattle.table.proofs.filler.fails_filler.Statement.{statement}
 use Rattle.table.proofs.filler.fails_filler.Tie as tie
@@ -22,7 +22,7 @@ in-list-requires : tie.Need-in-list-requires
 in-list-requires c κs = search needs
 
 returns : tie.Need-returns
-unfolding failsFiller recordAt
+unfolding failsFiller recordAt hasField
 returns c =
     let i = c .before in
     let n = i .before in
@@ -30,7 +30,7 @@ returns c =
     let t = now (a .table) in
     let k = a .k in
     let out : inList (kindAt t k) ≡ false = rw (← (n .kind-at .ensures), ← (i .in-list .ensures)) (not-true _ (c .if1 .taken)) in
-    sym (sym (filler-fields (recordAt t k) (not (eqb (pAt t k) 0)) (not (eqb (qAt t k) 0)) (not (eqb (sAt t k) 0)) (not (eqZ (uAt t k) (pos 0))) (not (eqZ (vAt t k) (pos 0))))
+    sym (sym (filler-fields (recordAt t k) (not (eqb (qAt t k) 0)) (not (eqb (sAt t k) 0)) (not (eqZ (uAt t k) (pos 0))) (not (eqZ (vAt t k) (pos 0))))
     ∙ rw (zero-unknown (kindAt t k) (pAt t k) (qAt t k) (uAt t k) (vAt t k) out))
 
 p-at-requires : tie.Need-p-at-requires
@@ -45,29 +45,26 @@ row-of-requires c κs =
 must-be-zero-requires : tie.Need-must-be-zero-requires
 must-be-zero-requires c κs = search needs
 
-array-read-result : tie.Need-array-read-result
-array-read-result c = search needs
-
-array-read-result-2 : tie.Need-array-read-result-2
-array-read-result-2 c = search needs
+has-requires : tie.Need-has-requires
+has-requires c κs = search needs
 
 q-at-requires : tie.Need-q-at-requires
 q-at-requires c κs = search needs
 
-array-read-result-3 : tie.Need-array-read-result-3
-array-read-result-3 c = search needs
+has-requires-2 : tie.Need-has-requires-2
+has-requires-2 c κs = search needs
 
 s-at-requires : tie.Need-s-at-requires
 s-at-requires c κs = search needs
 
-array-read-result-4 : tie.Need-array-read-result-4
-array-read-result-4 c = search needs
+has-requires-3 : tie.Need-has-requires-3
+has-requires-3 c κs = search needs
 
 u-at-requires : tie.Need-u-at-requires
 u-at-requires c κs = search needs
 
-array-read-result-5 : tie.Need-array-read-result-5
-array-read-result-5 c = search needs
+has-requires-4 : tie.Need-has-requires-4
+has-requires-4 c κs = search needs
 
 v-at-requires : tie.Need-v-at-requires
 v-at-requires c κs = search needs
@@ -76,10 +73,14 @@ returns-2 : tie.Need-returns-2
 unfolding failsFiller recordAt
 returns-2 c =
     let v = c .v-at in
-    let u = c .before .u-at in
-    let s = c .before .before .s-at in
-    let q = c .before .before .before .q-at in
-    let m = c .before .before .before .before in
+    let hv = c .before in
+    let u = hv .before .u-at in
+    let hu = hv .before .before in
+    let s = hu .before .s-at in
+    let hs = hu .before .before in
+    let q = hs .before .q-at in
+    let hq = hs .before .before in
+    let m = hq .before in
     let row = m .before in
     let p = row .before in
     let e = p .before in
@@ -92,8 +93,8 @@ returns-2 c =
     let zero : m .must-be-zero .result ≡ mustBeZero (recordOf (kindAt t k) (pAt t k) (qAt t k) (uAt t k) (vAt t k)) =
     m .must-be-zero .ensures ∙ ap zeroRow (row .row-of .ensures .0)
     ∙ rw (n .kind-at .ensures, p .p-at .ensures) (zero-rows (kindAt t k) (pAt t k) (qAt t k) (uAt t k) (vAt t k) is) in
-    rw (zero, is-zero (sfits-of (u .ok)), is-zero (sfits-of (v .ok)), q .ensures, s .ensures, u .ensures, v .ensures, p .p-at .ensures)
-    (filler-fields (recordAt t k) (not (eqb (pAt t k) 0)) (not (eqb (qAt t k) 0)) (not (eqb (sAt t k) 0)) (not (eqZ (uAt t k) (pos 0))) (not (eqZ (vAt t k) (pos 0))))
+    rw (hq .has .ensures, hs .has2 .ensures, hu .has3 .ensures, hv .has4 .ensures, zero, is-zero (sfits-of (u .ok)), is-zero (sfits-of (v .ok)), q .ensures, s .ensures, u .ensures, v .ensures)
+    (filler-fields (recordAt t k) (not (eqb (qAt t k) 0)) (not (eqb (sAt t k) 0)) (not (eqZ (uAt t k) (pos 0))) (not (eqZ (vAt t k) (pos 0))))
 
 pub fails-filler-spec : {M : Type 1} → statement M
 fails-filler-spec =
@@ -105,13 +106,12 @@ fails-filler-spec =
     p-at-requires
     row-of-requires
     must-be-zero-requires
-    array-read-result
-    array-read-result-2
+    has-requires
     q-at-requires
-    array-read-result-3
+    has-requires-2
     s-at-requires
-    array-read-result-4
+    has-requires-3
     u-at-requires
-    array-read-result-5
+    has-requires-4
     v-at-requires
     returns-2)

@@ -4,6 +4,7 @@ use mathlib.Core.Path.{_≡_, refl, sym, _∙_}
 use Prim.Native.Nat.{suc, _-_, _≤_}
 use native.Mathlib.Omega.{arith}
 use native.Mathlib.Numerals.{add-one}
+use lib.Dec.{leb}
 use lib.ListN.{length, length-set}
 use denote.Ref.{now}
 use borrow.Author.Needs.{needs}
@@ -11,7 +12,7 @@ use Rattle.model.specs.declared.Verdict.{Verdict}
 use Rattle.model.specs.Check.{eachBelow, judge}
 use Rattle.laws.specs.Accepted.{judged-below}
 use Rattle.table.specs.Carried.{Carried}
-use Rattle.table.proofs.Carried.{carried-none, carried-more}
+use Rattle.table.proofs.Carried.{carried-none, carried-more, marked-long}
 use Rattle.table.proofs.VerdictLaws.{records-loose, records-refused}
 use Rattle.table.proofs.verdict.judge_records.Statement.{statement}
 use Rattle.table.proofs.verdict.judge_records.Tie as tie
@@ -54,23 +55,11 @@ enum-told-2 c = search needs
 parts-at-requires : tie.Need-parts-at-requires Inv-loop μ-loop
 parts-at-requires c κs = search needs
 
-cast-left : tie.Need-cast-left Inv-loop μ-loop
-cast-left c = search needs
+mark-requires : tie.Need-mark-requires Inv-loop μ-loop
+mark-requires c κs = search needs
 
-cast-right : tie.Need-cast-right Inv-loop μ-loop
-cast-right c = search needs
-
-array-read-used : tie.Need-array-read-used Inv-loop μ-loop
-array-read-used c = search needs
-
-array-write-used : tie.Need-array-write-used Inv-loop μ-loop
-array-write-used c = search needs
-
-array-read-used-2 : tie.Need-array-read-used-2 Inv-loop μ-loop
-array-read-used-2 c = search needs
-
-array-write-used-2 : tie.Need-array-write-used-2 Inv-loop μ-loop
-array-write-used-2 c = search needs
+mark-requires-2 : tie.Need-mark-requires-2 Inv-loop μ-loop
+mark-requires-2 c κs = search needs
 
 is-term-at-requires : tie.Need-is-term-at-requires Inv-loop μ-loop
 is-term-at-requires c κs = search needs
@@ -94,7 +83,9 @@ loop-again : tie.Need-loop-again Inv-loop μ-loop
 unfolding eachBelow
 loop-again c =
     let t = c .before in
-    let known = t .before .before .before .before in
+    let second = t .before in
+    let first = second .before .before .before in
+    let known = first .before .before in
     let s = known .before in
     let e = s .before in
     let r = e .before .before in
@@ -102,13 +93,15 @@ loop-again c =
     let g = l .before .before in
     let table = now (g .args .table) in
     let k = l .loop .k in
+    let here = r .before .before .before .loop-test .taken in
     let parts = s .parts-at .result in (
-      search needs,
+      omega (arith, here),
       simp length-set (l .loop .inv .1),
-      simp length-set (l .loop .inv .2),
+      rw (second .mark2 .ensures, first .mark .ensures)
+          (marked-long (leb 2 (parts .count)) (parts .right) _ ∙ marked-long (leb 1 (parts .count)) (parts .left) _ ∙ l .loop .inv .2),
       rw (add-one, l .loop .inv .3) (sym (r .judge-record .ensures) ∙ e .enum-told2 .given .1),
-      rw (c .nearer .ensures, t .is-term-at .ensures)
-          (carried-more table k (l .loop .near) (l .loop .terms) (l .loop .used) (l .loop .inv .4) (omega (arith, g .pre .few)) (l .loop .inv .1) (l .loop .inv .2)
+      rw (c .nearer .ensures, t .is-term-at .ensures, second .mark2 .ensures, first .mark .ensures)
+          (carried-more table k (l .loop .near) (l .loop .terms) (l .loop .used) (l .loop .inv .4) (omega (arith, g .pre .few, here)) (l .loop .inv .1) (l .loop .inv .2)
           (parts .count) (parts .left) (parts .right) (search (needs, known .struct-known .given)) (search (needs, known .struct-known .given)) (s .parts-at .ensures)),
     )
 
@@ -136,12 +129,8 @@ judge-records-spec =
     returns
     enum-told-2
     parts-at-requires
-    cast-left
-    cast-right
-    array-read-used
-    array-write-used
-    array-read-used-2
-    array-write-used-2
+    mark-requires
+    mark-requires-2
     is-term-at-requires
     cast-at
     array-write-terms
