@@ -1,8 +1,11 @@
 -- FILLER as a table: which of q, s, u and v must be zero. p is filled for every kind.
+use mathlib.Core.Path.{_≡_}
 use mathlib.Core.Bool.{Bool, cond, _&&_, _||_}
-use Prim.Native.Nat.{ℕ, _+_, _-_, _/_, _%_}
+use mathlib.Core.List.{List}
+use Prim.Native.Nat.{ℕ, _+_, _-_, _/_, _%_, _<_}
 use lib.Dec.{eqb, ltb, leb}
 use lib.IntN.{pos}
+use lib.ListN.{getD}
 use Rattle.model.specs.declared.Record.{Record}
 use Rattle.model.specs.declared.BaseTerm.the-variants.{Lowest, Highest, Around, Between, Pos, Neg, PosNeg, PosPos}
 use Rattle.model.specs.declared.BaseTerm.the-variants.{Explicit, Any}
@@ -47,3 +50,7 @@ abbrev pub zeroRow : ℕ → ℕ
 zeroRow row =
     cond (eqb row 11) (mustBeZero (recordOf 0 4 0 (pos 0) (pos 0)))
     (cond (ltb row 11) (mustBeZero (recordOf row 0 0 (pos 0) (pos 0))) (mustBeZero (recordOf (row + 4) 0 0 (pos 0) (pos 0))))
+
+-- The constant table: what stands in its rows.
+abbrev pub ZeroRows : List ℕ → Type 0
+ZeroRows rows = (row : ℕ) → row < 16 → getD rows row 0 ≡ zeroRow row

@@ -18,6 +18,7 @@ use records::record::record_of;
 ghost use mathlib.Core.Path.{_≡_};
 ghost use Rattle.model.specs.declared.Verdict.the-variants.{Passed};
 ghost use Rattle.model.specs.Record.{nearestTerm};
+ghost use Rattle.table.specs.Filler.{ZeroRows};
 ghost use Rattle.table.specs.Carried.{Carried};
 ghost use Rattle.table.specs.Judging.{judgeFields, judgeRun, ValueFielded};
 
@@ -29,15 +30,16 @@ pub fn judge_fields(
     near: u8,
     terms: &[bool; 256],
     used: &[bool; 256],
+    zero: &[u8; 16],
 ) -> Verdict
-    requires { ⌜ Carried (now table) k near (now terms) (now used) ⌝ }
+    requires { ⌜ Carried (now table) k near (now terms) (now used) × ZeroRows (now zero) ⌝ }
     ensures { λ r. ⌜ r ≡ judgeFields (now (table .entry)) columns k Passed ⌝ }
 {
     let r = record_of(kind_at(table, k), p_at(table, k), 0, 0, 0);
     if fails_kind(r) {
         return Verdict::Refused(Refusal::Kind(k));
     }
-    if fails_filler(table, k) {
+    if fails_filler(table, k, zero) {
         return Verdict::Refused(Refusal::Filler(k));
     }
     if fails_column(columns, r) {

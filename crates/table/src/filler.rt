@@ -9,7 +9,7 @@ ghost use mathlib.Core.Path.{_≡_};
 ghost use mathlib.Core.Bool.{true};
 ghost use Prim.Native.Nat.{_<_};
 ghost use Rattle.model.specs.Check.{failsFiller};
-ghost use Rattle.table.specs.Filler.{hasField, inList, rowOf, zeroRow};
+ghost use Rattle.table.specs.Filler.{hasField, inList, rowOf, ZeroRows};
 
 // The fields as bits. p is filled for every kind.
 const Q: u8 = 2;
@@ -40,19 +40,28 @@ const MUST_BE_ZERO: [u8; 16] = [
     Q + S + U + V, // 19 DUAL
 ];
 
+// The table. The check lends it to the rule for all records, since a constant is laid out anew wherever it is read.
+pub fn must_be_zero() -> [u8; 16]
+    ensures { λ r. ⌜ ZeroRows r ⌝ }
+{
+    MUST_BE_ZERO
+}
+
 // Whether a field of record k that is not filled for its kind is not zero. A kind that is not in the list is KIND's.
-pub fn fails_filler(table: &[u8], k: u8) -> bool
+pub fn fails_filler(table: &[u8], k: u8, zero: &[u8; 16]) -> bool
+    requires { ⌜ ZeroRows (now zero) ⌝ }
     ensures { λ r. ⌜ r ≡ failsFiller (now (table .entry)) k ⌝ }
 {
     let kind = kind_at(table, k);
     if !in_list(kind) {
         return false;
     }
-    let zero = must_be_zero(row_of(kind, p_at(table, k)));
-    (has(zero, Q) & (q_at(table, k) != 0))
-        | (has(zero, S) & (s_at(table, k) != 0))
-        | (has(zero, U) & (u_at(table, k) != 0))
-        | (has(zero, V) & (v_at(table, k) != 0))
+    let row = row_of(kind, p_at(table, k));
+    let fields = zero[row];
+    (has(fields, Q) & (q_at(table, k) != 0))
+        | (has(fields, S) & (s_at(table, k) != 0))
+        | (has(fields, U) & (u_at(table, k) != 0))
+        | (has(fields, V) & (v_at(table, k) != 0))
 }
 
 // Whether the field is one of these.
@@ -82,11 +91,4 @@ fn row_of(kind: u8, role: u8) -> usize
         return kind as usize;
     }
     (kind - 4) as usize
-}
-
-fn must_be_zero(row: usize) -> u8
-    requires { ⌜ row < 16 ⌝ }
-    ensures { λ r. ⌜ r ≡ zeroRow row ⌝ }
-{
-    MUST_BE_ZERO[row]
 }

@@ -11,9 +11,11 @@ use records::record::kind_at;
 ghost use mathlib.Core.Path.{_≡_};
 ghost use Rattle.model.specs.Record.{nearestTerm};
 ghost use Rattle.model.specs.Check.{judge};
+ghost use Rattle.table.specs.Filler.{ZeroRows};
 ghost use Rattle.table.specs.Judging.{judgeRun, judgeShape, Brought, Fielded};
 
-// Record k, where every record below it passed; `near`, `terms` and `used` are what the check carries up to it.
+// Record k, where every record below it passed; `near`, `terms` and `used` are what the check carries up to it,
+// and `zero` is FILLER's table.
 pub fn judge_record(
     table: &[u8],
     columns: u8,
@@ -21,11 +23,12 @@ pub fn judge_record(
     near: u8,
     terms: &[bool; 256],
     used: &[bool; 256],
+    zero: &[u8; 16],
 ) -> Verdict
-    requires { ⌜ Brought (now table) columns k near (now terms) (now used) ⌝ }
+    requires { ⌜ Brought (now table) columns k near (now terms) (now used) × ZeroRows (now zero) ⌝ }
     ensures { λ r. ⌜ r ≡ judge (now (table .entry)) columns k ⌝ }
 {
-    let first = judge_fields(table, columns, k, near, terms, used);
+    let first = judge_fields(table, columns, k, near, terms, used, zero);
     match first {
         Verdict::Refused(_) => first,
         Verdict::Passed => judge_rest(table, columns, k, near),

@@ -1,4 +1,5 @@
 // The table's own refusals in order (document 01): 1, 2, the records from 0 upward, 14; and what an accepted table is.
+use crate::filler::must_be_zero;
 use crate::judging::judge_record;
 use crate::rules::fails_length;
 use crate::rules::fails_width;
@@ -39,12 +40,13 @@ fn judge_records(table: &[u8], columns: u8, n: u8) -> Verdict
     requires { ⌜ Counted (now table) columns n ⌝ }
     ensures { λ r. ⌜ r ≡ recordsVerdict (now (table .entry)) columns n ⌝ }
 {
+    let zero = must_be_zero();
     let mut terms = [false; 256];
     let mut used = [false; 256];
     let mut near = 0u8;
     let mut k = 0u8;
     while k < n {
-        let v = judge_record(table, columns, k, near, &terms, &used);
+        let v = judge_record(table, columns, k, near, &terms, &used, &zero);
         if let Verdict::Refused(_) = v {
             return v;
         }

@@ -33,7 +33,7 @@ returns c =
     rw (sym (kind-told t k (n .kind-at .result) (p .p-at .result) (r .record-of .result) (r .record-of .ensures) (n .kind-at .ensures) (p .p-at .ensures)) ∙ (sym (f1 .fails-kind .ensures) ∙ c .if1 .taken))
 
 fails-filler-requires : tie.Need-fails-filler-requires
-fails-filler-requires c κs = search needs
+fails-filler-requires c κs = c .before .before .before .before .before .before .pre .1
 
 returns-2 : tie.Need-returns-2
 unfolding judgeFields refusal numbered refusals
@@ -76,7 +76,7 @@ returns-3 c =
     )
 
 fails-part-requires : tie.Need-fails-part-requires
-fails-part-requires c κs = c .before .before .before .before .before .before .before .before .before .before .pre .termsBelow
+fails-part-requires c κs = c .before .before .before .before .before .before .before .before .before .before .pre .0 .termsBelow
 
 returns-4 : tie.Need-returns-4
 unfolding judgeFields refusal numbered refusals
@@ -102,7 +102,7 @@ returns-4 c =
     )
 
 fails-reused-requires : tie.Need-fails-reused-requires
-fails-reused-requires c κs = c .before .before .before .before .before .before .before .before .before .before .before .before .pre .usedBelow
+fails-reused-requires c κs = c .before .before .before .before .before .before .before .before .before .before .before .before .pre .0 .usedBelow
 
 returns-5 : tie.Need-returns-5
 unfolding judgeFields refusal numbered refusals
@@ -131,7 +131,7 @@ returns-5 c =
     )
 
 fails-stray-requires : tie.Need-fails-stray-requires
-fails-stray-requires c κs = c .before .before .before .before .before .before .before .before .before .before .before .before .before .before .pre .nearest
+fails-stray-requires c κs = c .before .before .before .before .before .before .before .before .before .before .before .before .before .before .pre .0 .nearest
 
 returns-6 : tie.Need-returns-6
 unfolding judgeFields refusal numbered refusals

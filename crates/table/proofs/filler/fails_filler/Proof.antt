@@ -3,6 +3,7 @@ use mathlib.Core.Path.{_≡_, sym, _∙_, ap}
 use mathlib.Core.Bool.{true, false, not}
 use lib.Dec.{eqb}
 use lib.IntN.{pos}
+use lib.ListN.{getD}
 use denote.Ref.{now}
 use borrow.Author.Needs.{sfits-of, needs}
 use borrow.Author.Tests.{not-true, not-false}
@@ -42,8 +43,8 @@ row-of-requires c κs =
     let i = e .before in
     rw (← (i .in-list .ensures)) (not-false _ (e .if1 .left))
 
-must-be-zero-requires : tie.Need-must-be-zero-requires
-must-be-zero-requires c κs = search needs
+element-copy-out-fields : tie.Need-element-copy-out-fields
+element-copy-out-fields c = search needs
 
 has-requires : tie.Need-has-requires
 has-requires c κs = search needs
@@ -80,18 +81,18 @@ returns-2 c =
     let hs = hu .before .before in
     let q = hs .before .q-at in
     let hq = hs .before .before in
-    let m = hq .before in
-    let row = m .before in
+    let row = hq .before .before in
     let p = row .before in
     let e = p .before in
     let i = e .before in
     let n = i .before in
-    let a = n .before .before .args in
+    let g = n .before .before in
+    let a = g .args in
     let t = now (a .table) in
     let k = a .k in
     let is : inList (kindAt t k) ≡ true = rw (← (n .kind-at .ensures), ← (i .in-list .ensures)) (not-false _ (e .if1 .left)) in
-    let zero : m .must-be-zero .result ≡ mustBeZero (recordOf (kindAt t k) (pAt t k) (qAt t k) (uAt t k) (vAt t k)) =
-    m .must-be-zero .ensures ∙ ap zeroRow (row .row-of .ensures .0)
+    let zero : getD (now (a .zero)) (row .row-of .result) 0 ≡ mustBeZero (recordOf (kindAt t k) (pAt t k) (qAt t k) (uAt t k) (vAt t k)) =
+    g .pre (row .row-of .result) (row .row-of .ensures .1) ∙ ap zeroRow (row .row-of .ensures .0)
     ∙ rw (n .kind-at .ensures, p .p-at .ensures) (zero-rows (kindAt t k) (pAt t k) (qAt t k) (uAt t k) (vAt t k) is) in
     rw (hq .has .ensures, hs .has2 .ensures, hu .has3 .ensures, hv .has4 .ensures, zero, is-zero (sfits-of (u .ok)), is-zero (sfits-of (v .ok)), q .ensures, s .ensures, u .ensures, v .ensures)
     (filler-fields (recordAt t k) (not (eqb (qAt t k) 0)) (not (eqb (sAt t k) 0)) (not (eqZ (uAt t k) (pos 0))) (not (eqZ (vAt t k) (pos 0))))
@@ -105,7 +106,7 @@ fails-filler-spec =
     returns
     p-at-requires
     row-of-requires
-    must-be-zero-requires
+    element-copy-out-fields
     has-requires
     q-at-requires
     has-requires-2

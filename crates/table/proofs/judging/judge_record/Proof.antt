@@ -7,7 +7,7 @@ use Rattle.table.proofs.judging.judge_record.Statement.{statement}
 use Rattle.table.proofs.judging.judge_record.Tie as tie
 
 judge-fields-requires : tie.Need-judge-fields-requires
-judge-fields-requires c κs = c .before .pre .carried
+judge-fields-requires c κs = (c .before .pre .0 .carried, c .before .pre .1)
 
 enum-told : tie.Need-enum-told
 enum-told c = search needs
@@ -19,7 +19,7 @@ judge-rest-requires : tie.Need-judge-rest-requires
 judge-rest-requires c κs =
     let f = c .before .before in
     let s = f .before .before in
-    (record { reached = s .pre .reached; fields = sym (f .judge-fields .ensures) ∙ c .enum-told2 .given .1 }, s .pre .carried .nearest)
+    (record { reached = s .pre .0 .reached; fields = sym (f .judge-fields .ensures) ∙ c .enum-told2 .given .1 }, s .pre .0 .carried .nearest)
 
 returns : tie.Need-returns
 returns c =

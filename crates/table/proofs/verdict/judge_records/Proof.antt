@@ -18,25 +18,31 @@ use Rattle.table.proofs.verdict.judge_records.Statement.{statement}
 use Rattle.table.proofs.verdict.judge_records.Tie as tie
 
 abbrev Inv-loop : tie.InvT-loop
-Inv-loop table columns n terms₀ used₀ near₀ k₀ terms used near k =
+Inv-loop table columns n zero terms₀ used₀ near₀ k₀ terms used near k =
     (k ≤ n) × (length terms ≡ 256) × (length used ≡ 256) × (eachBelow k (judge table columns) ≡ Verdict.Passed)
     × Carried table k near terms used
 
 abbrev μ-loop : tie.MeasureT-loop
-μ-loop table columns n terms₀ used₀ near₀ k₀ terms used near k = n - k
+μ-loop table columns n zero terms₀ used₀ near₀ k₀ terms used near k = n - k
 
 loop-holds : tie.Need-loop-holds Inv-loop μ-loop
 unfolding eachBelow
 loop-holds c = (search needs, refl, refl, refl, carried-none _)
 
+must-be-zero-requires : tie.Need-must-be-zero-requires Inv-loop μ-loop
+must-be-zero-requires c κs = search needs
+
 judge-record-requires : tie.Need-judge-record-requires Inv-loop μ-loop
 judge-record-requires c κs =
-    let l = c .before .before .before in
-    let s = l .before .before in
-    record {
-      reached = record { few = omega (arith, s .pre .few); narrow = s .pre .narrow; passed = l .loop .inv .3 };
-      carried = l .loop .inv .4;
-    }
+    let l = c .before .before .before .before in
+    let z = l .before in
+    let s = z .before .before in (
+      record {
+        reached = record { few = omega (arith, s .pre .few); narrow = s .pre .narrow; passed = l .loop .inv .3 };
+        carried = l .loop .inv .4;
+      },
+      z .must-be-zero .ensures,
+    )
 
 enum-told : tie.Need-enum-told Inv-loop μ-loop
 enum-told c = search needs
@@ -44,8 +50,8 @@ enum-told c = search needs
 returns : tie.Need-returns Inv-loop μ-loop
 returns c =
     let r = c .before .before in
-    let l = r .before .before .before .before in
-    let a = l .before .before .args in
+    let l = r .before .before .before .before .before in
+    let a = l .before .before .before .args in
     let e = c .enum-told .given .1 in
     e ∙ sym (records-refused (now (a .table)) (a .columns) (a .n) (l .loop .k) _ (omega arith) (l .loop .inv .3) (sym (r .judge-record .ensures) ∙ e))
 
@@ -89,11 +95,11 @@ loop-again c =
     let s = known .before in
     let e = s .before in
     let r = e .before .before in
-    let l = r .before .before .before .before in
-    let g = l .before .before in
+    let l = r .before .before .before .before .before in
+    let g = l .before .before .before in
     let table = now (g .args .table) in
     let k = l .loop .k in
-    let here = r .before .before .before .loop-test .taken in
+    let here = r .before .before .before .before .loop-test .taken in
     let parts = s .parts-at .result in (
       omega (arith, here),
       simp length-set (l .loop .inv .1),
@@ -111,7 +117,7 @@ judge-loose-requires c κs = search needs
 returns-2 : tie.Need-returns-2 Inv-loop μ-loop
 returns-2 c =
     let l = c .before .before .before .before in
-    let g = l .before .before in
+    let g = l .before .before .before in
     let a = g .args in
     let e : l .loop .k ≡ a .n = omega arith in
     c .judge-loose .ensures
@@ -123,6 +129,7 @@ judge-records-spec =
     (tie.spec
     Inv-loop
     μ-loop
+    must-be-zero-requires
     loop-holds
     judge-record-requires
     enum-told
