@@ -1,8 +1,7 @@
 -- `demands::strictly::chained` meets its contract, by that of `compare`. Assumes nothing.
-use mathlib.Core.Path.{_∙_, ap}
 use denote.Ref.{now}
 use borrow.Author.Needs.{needs}
-use Rattle.demands.specs.Given.{numberGiven, givesChained}
+use Rattle.demands.specs.Given.{givesChained}
 use Rattle.demands.proofs.Replies.{chained-passes}
 use Rattle.demands.proofs.strictly.chained.Statement.{statement}
 use Rattle.demands.proofs.strictly.chained.Tie as tie
@@ -31,12 +30,17 @@ returns c =
     let k = c .before in
     let l = k .before in
     let m = l .before .before in
-    let a = m .before .before .before .args in
-    let first = m .number-given .ensures ∙ ap numberGiven (m .before .compare .ensures) in
-    let second = l .number-given2 .ensures ∙ ap numberGiven (l .before .compare2 .ensures) in
-    let whole = c .number-given3 .ensures ∙ ap numberGiven (k .compare3 .ensures) in (
-      rw (first, second, whole),
-      λ ok low is e f g. rw (first, second, whole)
+    let a = m .before .before .before .args in (
+      cc,
+      λ ok low is e f g.
+          rw (
+            m .number-given .ensures,
+            m .before .compare .ensures,
+            l .number-given2 .ensures,
+            l .before .compare2 .ensures,
+            c .number-given3 .ensures,
+            k .compare3 .ensures,
+          )
           (chained-passes (now (a .table)) (a .columns) (a .term)
           (record { isAccepted = ok; below = low; isRecord = is }) (now (a .x)) (now (a .y)) (now (a .z)) e f g),
     )

@@ -1,8 +1,7 @@
 -- `demands::strictly::same_row` meets its contract, by that of `compare`. Assumes nothing.
-use mathlib.Core.Path.{_∙_, ap}
 use denote.Ref.{now}
 use borrow.Author.Needs.{needs}
-use Rattle.demands.specs.Given.{numberGiven, givesSame}
+use Rattle.demands.specs.Given.{givesSame}
 use Rattle.demands.proofs.Replies.{same-passes}
 use Rattle.demands.proofs.strictly.same_row.Statement.{statement}
 use Rattle.demands.proofs.strictly.same_row.Tie as tie
@@ -18,10 +17,9 @@ unfolding givesSame
 returns c =
     let k = c .before in
     let a = k .before .before .args in
-    let x = now (a .x) in
-    let own = c .number-given .ensures ∙ ap numberGiven (k .compare .ensures) in (
-      rw own,
-      λ ok low is e. rw own
+    let x = now (a .x) in (
+      cc,
+      λ ok low is e. rw (c .number-given .ensures, k .compare .ensures)
           (same-passes (now (a .table)) (a .columns) (a .term)
           (record { isAccepted = ok; below = low; isRecord = is }) x x x e e e),
     )

@@ -1,8 +1,7 @@
 -- `demands::strictly::turned` meets its contract, by that of `compare`. Assumes nothing.
-use mathlib.Core.Path.{_∙_, ap}
 use denote.Ref.{now}
 use borrow.Author.Needs.{needs}
-use Rattle.demands.specs.Given.{numberGiven, givesTurned}
+use Rattle.demands.specs.Given.{givesTurned}
 use Rattle.demands.proofs.Replies.{turned-passes}
 use Rattle.demands.proofs.strictly.turned.Statement.{statement}
 use Rattle.demands.proofs.strictly.turned.Tie as tie
@@ -26,11 +25,10 @@ returns c =
     let l = k .before in
     let a = l .before .before .before .args in
     let x = now (a .x) in
-    let y = now (a .y) in
-    let there = l .number-given .ensures ∙ ap numberGiven (l .before .compare .ensures) in
-    let back = c .number-given2 .ensures ∙ ap numberGiven (k .compare2 .ensures) in (
-      rw (there, back),
-      λ ok low is e f. rw (there, back)
+    let y = now (a .y) in (
+      cc,
+      λ ok low is e f.
+          rw (l .number-given .ensures, l .before .compare .ensures, c .number-given2 .ensures, k .compare2 .ensures)
           (turned-passes (now (a .table)) (a .columns) (a .term)
           (record { isAccepted = ok; below = low; isRecord = is }) x y y e f f),
     )
