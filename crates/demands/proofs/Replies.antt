@@ -1,9 +1,9 @@
 -- What Compare replies strictly, and as numbers. Assumes nothing.
-use mathlib.Core.Path.{_≡_, refl, sym, _∙_, ap}
+use mathlib.Core.Path.{_≡_, refl, sym, _∙_}
 use mathlib.Core.Bool.{Bool, true, false, not, _&&_, _||_}
 use mathlib.Core.List.{List}
 use Prim.Native.Nat.{ℕ}
-use lib.Dec.{ltb, eqb}
+use lib.Dec.{ltb}
 use lib.ListN.{length}
 use Rattle.model.specs.declared.{Outcome.Outcome, CompareReply.CompareReply}
 use Rattle.model.specs.declared.Outcome.the-variants.{Same, First, Second, Unranked}
@@ -17,23 +17,13 @@ use Rattle.laws.specs.Compared.{outcome-turned}
 use Rattle.laws.specs.Taken.{taken-sound}
 use Rattle.laws.specs.Replied.{compared-reply, reply-self}
 use Rattle.theorems.specs.Strictly.{TermRecord}
-use Rattle.demands.specs.Given.{numberGiven}
+use Rattle.demands.specs.Given.{numberGiven, givesSame, givesTurned, givesChained}
 use Rattle.demands.proofs.Numbered.{is-one}
 use Rattle.theorems.specs.Ordered.{taken}
 
--- ---- what the functions test
-
-abbrev pub sameTest : ℕ → Bool
-sameTest a = eqb a 0
-
-abbrev pub turnedTest : ℕ → ℕ → Bool
-turnedTest a b = eqb a 0 && eqb b 0 || eqb a 1 && eqb b 2 || eqb a 2 && eqb b 1 || eqb a 3 && eqb b 3
-
-abbrev pub chainedTest : ℕ → ℕ → ℕ → Bool
-chainedTest a b c = ltb a 4 && ltb b 4 && ltb c 4 && (not (eqb a 1 && eqb b 1) || eqb c 1)
-
 turned-numbers : (o : Outcome)
-    → turnedTest (numberGiven (CompareReply.Compared o)) (numberGiven (CompareReply.Compared (turned o))) ≡ true
+    → givesTurned (CompareReply.Compared o) (CompareReply.Compared (turned o)) ≡ true
+unfolding givesTurned
 turned-numbers Same = refl
 turned-numbers First = refl
 turned-numbers Second = refl
@@ -52,18 +42,16 @@ if-then false q f = refl
 module _ (table : List ℕ) (columns term : ℕ) (t : TermRecord table columns term) (x y z : Row)
     (fx : length x ≡ columns) (fy : length y ≡ columns) (fz : length z ≡ columns) where
   given : (x y : Row) → length x ≡ columns → length y ≡ columns
-      → numberGiven (compareReply table columns term x y)
-      ≡ numberGiven (CompareReply.Compared (outcome (termAt table term) x y))
-  given x y e f = ap numberGiven (compared-reply table columns term (taken table columns term t) x y e f)
+      → compareReply table columns term x y ≡ CompareReply.Compared (outcome (termAt table term) x y)
+  given = compared-reply table columns term (taken table columns term t)
 
   -- A row against itself gives same;
-  pub same-passes : sameTest (numberGiven (compareReply table columns term x x)) ≡ true
+  pub same-passes : givesSame (compareReply table columns term x x) ≡ true
+  unfolding givesSame
   same-passes = rw (reply-self table columns term (taken table columns term t) x fx)
 
   -- the replies to rows that change places correspond;
-  pub turned-passes
-      : turnedTest (numberGiven (compareReply table columns term x y)) (numberGiven (compareReply table columns term y x))
-      ≡ true
+  pub turned-passes : givesTurned (compareReply table columns term x y) (compareReply table columns term y x) ≡ true
   turned-passes =
       let k = taken table columns term t in
       let s = taken-sound table columns term k in
@@ -80,9 +68,10 @@ module _ (table : List ℕ) (columns term : ℕ) (t : TermRecord table columns t
 
   -- and two replies of first better chain.
   pub chained-passes
-      : chainedTest (numberGiven (compareReply table columns term x y)) (numberGiven (compareReply table columns term y z))
-      (numberGiven (compareReply table columns term x z))
+      : givesChained (compareReply table columns term x y) (compareReply table columns term y z)
+      (compareReply table columns term x z)
       ≡ true
+  unfolding givesChained
   chained-passes =
       let o = outcome (termAt table term) in
       rw (

@@ -1,7 +1,7 @@
--- Where Query refuses nothing, the entry of every dropped row is its witness. Assumes nothing.
+-- Where Query refuses nothing, the entry of every dropped row is its witness; and tests that say so. Assumes nothing.
 use mathlib.Core.Path.{_≡_, refl, sym, _∙_, ap}
 use mathlib.Core.Logic.{⊎-elim}
-use mathlib.Core.Bool.{Bool, true, false, not, _&&_}
+use mathlib.Core.Bool.{Bool, true, not, _&&_}
 use mathlib.Core.List.{List}
 use Prim.Native.Nat.{ℕ, suc, _/_, _%_, _<_}
 use native.Mathlib.Nat.{div-add-mod'}
@@ -30,7 +30,7 @@ use Rattle.demands.specs.Given.{numberGiven}
 use Rattle.demands.proofs.Numbered.{is-one}
 use Rattle.theorems.specs.Asked.{Asked, Long, BeatenBy}
 use Rattle.theorems.specs.Dropped.{query-takes, dropped-beaten-by-kept}
-use Rattle.demands.specs.Witness.{Answers, isWitness, witnessed, allWitnessed, whereKept}
+use Rattle.demands.specs.Witness.{Answers, isWitness, witnessed, allWitnessed, whereKept, queryWitnessed, beatenByKept}
 
 -- A reply refuses or it does not.
 not-refused : (r : QueryReply) (why : Refusal) (total : ℕ) → r ≡ QueryReply.Refused why → r ≡ QueryReply.Kept total → ⊥
@@ -143,24 +143,34 @@ module _ (table : List ℕ) (columns : ℕ) (rows : List ℤ) (term group : ℕ)
       ap not
       (none-i n (λ i. not (witnessed table columns rows n term group after i)) (λ i h e. not-both e (row-witnessed i h)))
 
-  -- So says a test of what an engine replied and left in its buffer,
-  pub engine-witnessed : (x : QueryReply) (left : List ℕ) (r : Bool)
-      → x ≡ queryReply table columns rows term group before → left ≡ queryBuffer table columns rows term group before
-      → r ≡ whereKept x (allWitnessed table columns rows n term group left)
-      → r ≡ true
-  engine-witnessed x left r e f g =
-      g ∙ rw (
-        e ∙ passed-reply table columns rows term group before (taken-asked table columns rows term group before took),
-        f,
-      )
+  -- So says the test of a query,
+  query-witnessed : queryWitnessed table columns rows term group before ≡ true
+  unfolding queryWitnessed
+  query-witnessed =
+      rw (passed-reply table columns rows term group before (taken-asked table columns rows term group before took))
       all-witnessed
 
-  -- which another query may use again.
-  pub still-long : (left : List ℕ) → left ≡ queryBuffer table columns rows term group before → Long columns rows left
-  still-long left f =
-      rw (f, buffer-length table columns rows term group before (taken-asked table columns rows term group before took)) long
+  -- whose buffer another may use again.
+  still-long : Long columns rows after
+  still-long = rw (buffer-length table columns rows term group before (taken-asked table columns rows term group before took)) long
 
--- A refusal is answered by false.
-pub refused-false : (x : QueryReply) (r s so : Bool) (why : Refusal) → r ≡ whereKept x so → x ≡ QueryReply.Refused why
-    → (r && s) ≡ false
-refused-false x r s so why e f = rw (e, f)
+-- What both tests together say, where one engine replies x and leaves `middle` and the other then replies y and leaves `after`.
+pub both-witnessed : (table : List ℕ) (columns : ℕ) (rows : List ℤ) (term group : ℕ) (before middle after : List ℕ)
+    (x y : QueryReply) (r s : Bool)
+    → x ≡ queryReply table columns rows term group before → middle ≡ queryBuffer table columns rows term group before
+    → r ≡ whereKept x (allWitnessed table columns rows (rowCount columns rows) term group middle)
+    → y ≡ queryReply table columns rows term group middle → after ≡ queryBuffer table columns rows term group middle
+    → s ≡ whereKept y (allWitnessed table columns rows (rowCount columns rows) term group after)
+    → ((r && s) ≡ beatenByKept table columns rows term group before)
+    × (after ≡ queryBuffer table columns rows term group (queryBuffer table columns rows term group before))
+    × (Asked table columns rows term group → Long columns rows before → (r && s) ≡ true)
+unfolding beatenByKept queryWitnessed
+both-witnessed table columns rows term group before middle after x y r s ex em er ey ea es =
+    let said : (r && s) ≡ beatenByKept table columns rows term group before = rw (er, es, ex, ey, ea, em) in (
+      said,
+      rw (ea, em),
+      λ asked long. said
+          ∙ and-i (query-witnessed table columns rows term group asked before long)
+          (query-witnessed table columns rows term group asked (queryBuffer table columns rows term group before)
+          (still-long table columns rows term group asked before long)),
+    )

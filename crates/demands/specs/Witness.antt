@@ -11,7 +11,7 @@ use Rattle.model.specs.declared.{QueryReply.QueryReply}
 use Rattle.model.specs.Search.{anyBelow}
 use Rattle.model.specs.Better.{equalIn}
 use Rattle.model.specs.Compare.{compareReply}
-use Rattle.model.specs.Query.{rowAt}
+use Rattle.model.specs.Query.{rowCount, rowAt, queryReply, queryBuffer}
 use Rattle.demands.specs.Given.{numberGiven}
 
 -- n rows of 1 to 8 columns, and an entry for each.
@@ -43,3 +43,15 @@ allWitnessed table columns rows n term group answers =
 abbrev pub whereKept : QueryReply → Bool → Bool
 whereKept (QueryReply.Kept total) so = so
 whereKept (QueryReply.Refused why) so = false
+
+-- Of Query's reply and of what it leaves in the buffer: it refused nothing, and every row is kept or has its witness.
+unfoldable pub queryWitnessed : List ℕ → ℕ → List ℤ → ℕ → ℕ → List ℕ → Bool
+queryWitnessed table columns rows term group before =
+    whereKept (queryReply table columns rows term group before)
+    (allWitnessed table columns rows (rowCount columns rows) term group (queryBuffer table columns rows term group before))
+
+-- "Every dropped row is beaten by a kept row of the set": of one query and of another over the buffer that it leaves.
+unfoldable pub beatenByKept : List ℕ → ℕ → List ℤ → ℕ → ℕ → List ℕ → Bool
+beatenByKept table columns rows term group before =
+    queryWitnessed table columns rows term group before
+    && queryWitnessed table columns rows term group (queryBuffer table columns rows term group before)

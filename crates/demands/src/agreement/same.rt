@@ -4,15 +4,13 @@ use model::QueryReply;
 use table::refusals::number;
 use table::refusals::place;
 ghost use mathlib.Core.Path.{_≡_};
-ghost use mathlib.Core.Logic.{_↔_};
-ghost use mathlib.Core.Bool.{true};
 ghost use Rattle.model.specs.Replies.{listedQuery};
 ghost use Rattle.laws.specs.Listed.{recordIn};
-ghost use Rattle.demands.specs.Agreement.{valueReplied};
+ghost use Rattle.demands.specs.Agreement.{valueReplied, sameReply, sameEntries};
 
 // The replies are the same: what they list is.
 pub fn same_reply(x: QueryReply, y: QueryReply) -> bool
-    ensures { λ r. ⌜ (r ≡ true) ↔ (x ≡ y) ⌝ }
+    ensures { λ r. ⌜ r ≡ sameReply x y ⌝ }
 {
     (number_replied(x) == number_replied(y)) & (value_replied(x) == value_replied(y))
 }
@@ -49,7 +47,7 @@ fn record_in(at: Place) -> u16
 
 // The buffers are the same, entry by entry.
 pub fn same_entries(a: &[u16], b: &[u16]) -> bool
-    ensures { λ r. ⌜ (r ≡ true) ↔ (now (a .entry) ≡ now (b .entry)) ⌝ }
+    ensures { λ r. ⌜ r ≡ sameEntries (now (a .entry)) (now (b .entry)) ⌝ }
 {
     let n = a.len();
     if b.len() != n {

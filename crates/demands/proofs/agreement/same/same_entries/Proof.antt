@@ -1,7 +1,7 @@
 -- `demands::agreement::same::same_entries` meets its contract. The entries below i are the same. Assumes nothing.
-use mathlib.Core.Path.{_≡_, refl, sym, ap, subst}
+use mathlib.Core.Path.{_≡_, sym, ap, subst}
 use mathlib.Core.Logic.{⊎-elim}
-use mathlib.Core.Bool.{false≢true}
+use mathlib.Core.Bool.{false}
 use mathlib.Core.List.{List}
 use Prim.Native.Nat.{ℕ, _-_, _<_, _≤_}
 use native.Mathlib.Omega.{arith}
@@ -9,7 +9,9 @@ use lib.ListN.{length, getD}
 use lib.Seq.{ext-getD}
 use denote.Ref.{now}
 use borrow.Author.Needs.{needs}
+use Rattle.laws.specs.Bools.{off}
 use Rattle.laws.specs.Search.{lt-suc-cases}
+use Rattle.demands.specs.Agreement.{sameEntries, same-entries-is}
 use Rattle.demands.proofs.agreement.same.same_entries.Statement.{statement}
 use Rattle.demands.proofs.agreement.same.same_entries.Tie as tie
 
@@ -19,8 +21,14 @@ Inv-loop a b n i₀ i = (i ≤ n) × ((j : ℕ) → j < i → getD a j 0 ≡ get
 abbrev μ-loop : tie.MeasureT-loop
 μ-loop a b n i₀ i = n - i
 
+-- The test fails where the buffers are not the same.
+apart : (a b : List ℕ) → (a ≡ b → ⊥) → false ≡ sameEntries a b
+apart a b h = sym (off (sameEntries a b) (λ e. h (same-entries-is a b .0 e)))
+
 returns : tie.Need-returns Inv-loop μ-loop
-returns c = (λ e. absurd (false≢true e), λ e. absurd (c .if1 .taken (ap (λ (l : List ℕ). length l) (sym e))))
+returns c =
+    let a = c .before .args in
+    apart (now (a .a)) (now (a .b)) (λ e. c .if1 .taken (ap (λ (l : List ℕ). length l) (sym e)))
 
 loop-holds : tie.Need-loop-holds Inv-loop μ-loop
 loop-holds c = (search needs, λ j h. absurd (omega arith))
@@ -39,8 +47,9 @@ shared-slice-read-if2-2 c = search needs
 
 returns-2 : tie.Need-returns-2 Inv-loop μ-loop
 returns-2 c =
-    let i = c .before .before .before .before .loop .i in
-    (λ e. absurd (false≢true e), λ e. absurd (c .if2 .taken (ap (λ (l : List ℕ). getD l i 0) e)))
+    let l = c .before .before .before .before in
+    let a = l .before .before .args in
+    apart (now (a .a)) (now (a .b)) (λ e. c .if2 .taken (ap (λ (k : List ℕ). getD k (l .loop .i) 0) e))
 
 add-i : tie.Need-add-i Inv-loop μ-loop
 add-i c = search needs
@@ -64,7 +73,8 @@ returns-3 c =
     let l = c .before in
     let s = l .before in
     let a = s .before .args in
-    (λ e. ext-getD 0 (now (a .a)) (now (a .b)) (sym (s .if1 .left)) (λ j h. l .loop .inv .1 j (omega arith)), λ e. refl)
+    sym (same-entries-is (now (a .a)) (now (a .b)) .1
+    (ext-getD 0 (now (a .a)) (now (a .b)) (sym (s .if1 .left)) (λ j h. l .loop .inv .1 j (omega arith))))
 
 pub same-entries-spec : {M : Type 1} → statement M
 same-entries-spec =

@@ -1,6 +1,6 @@
 -- `demands::agreement::same::same_reply` meets its contract. Assumes nothing.
 use borrow.Author.Needs.{needs}
-use Rattle.demands.specs.Agreement.{same-replied}
+use Rattle.demands.specs.Agreement.{sameReply}
 use Rattle.demands.proofs.agreement.same.same_reply.Statement.{statement}
 use Rattle.demands.proofs.agreement.same.same_reply.Tie as tie
 
@@ -17,13 +17,12 @@ value-replied-requires-2 : tie.Need-value-replied-requires-2
 value-replied-requires-2 c κs = search needs
 
 returns : tie.Need-returns
+unfolding sameReply
 returns c =
     let v = c .before in
     let n = v .before in
     let m = n .before in
-    let a = m .before .args in
     rw (m .number-replied .ensures, n .number-replied2 .ensures, v .value-replied .ensures, c .value-replied2 .ensures)
-    (same-replied (a .x) (a .y))
 
 pub same-reply-spec : {M : Type 1} → statement M
 same-reply-spec =
