@@ -8,6 +8,8 @@ pub mod Among
 pub mod Placed
 pub mod Alone
 pub mod Equally
+pub mod ThirdSentence
+pub mod Joined
 pub mod ThirdClause
 pub mod Unread
 pub mod Cascade

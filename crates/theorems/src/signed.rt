@@ -22,6 +22,21 @@ ghost use Rattle.laws.specs.Outcome.{turned};
 ghost use Rattle.theorems.specs.Strictly.{TermRecord};
 ghost use Rattle.theorems.specs.Asked.{Asked, TwoParts, AskedTwo, Long, Alike};
 ghost use Rattle.theorems.specs.Asked.{BeatenBy, BeatenApart, KeepsAmong};
+ghost use Rattle.theorems.specs.ThirdSentence.{ThirdSentence, Answers, PartsAnswer};
+
+// The third signed sentence, whole: of whatever table the check accepts, any of its terms, whatever rows and whichever
+// grouping. `ThirdSentence` (specs/ThirdSentence) has its clauses in their order.
+pub fn third_sentence()
+    ensures { λ _. ⌜ ((table : List ℕ) (columns : ℕ) (rows : List ℤ) (term group : ℕ)
+        → Asked table columns rows term group → ThirdSentence table columns rows term group) ⌝ }
+{}
+
+// None of the queries that it speaks of is refused, of a buffer long enough.
+pub fn query_refuses_none()
+    ensures { λ _. ⌜ ((table : List ℕ) (columns : ℕ) (rows : List ℤ) (term group : ℕ)
+        → Asked table columns rows term group → Answers table columns rows term group
+        × (TwoParts table term → PartsAnswer table columns rows term group)) ⌝ }
+{}
 
 // ---- "the term orders the rows strictly"
 
