@@ -75,9 +75,6 @@ pub mod Placings
 pub mod TwoParts
 pub mod Among
 pub mod Listed
-pub mod Instances
-pub mod InstancesOfRows
-pub mod InstancesOfDemand
 pub mod Elimination
 pub mod Cases
 pub mod Rounds

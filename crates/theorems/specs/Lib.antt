@@ -14,4 +14,3 @@ pub mod ThirdClause
 pub mod Unread
 pub mod Cascade
 pub mod Instances
-pub mod InstancesOfRows
