@@ -30,7 +30,6 @@ pub mod Select
 pub mod Answers
 pub mod Placing
 pub mod Rows
-pub mod Entries
 pub mod Unread
 pub mod Chains
 pub mod Cascade

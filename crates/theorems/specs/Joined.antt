@@ -16,7 +16,7 @@ use Rattle.model.specs.Demand.{leftFirst, rightFirst, equally, keeps}
 use Rattle.laws.specs.Bools.{and-l, and-r, and-i, off}
 use Rattle.laws.specs.Answered.{gives-and-writes}
 use Rattle.theorems.specs.Strictly.{TermRecord}
-use Rattle.theorems.specs.Asked.{Asked, AskedTwo, TwoParts, Long, BeatenBy, BeatenApart, KeepsAmong, Alike}
+use Rattle.theorems.specs.Asked.{Asked, AskedTwo, TwoParts, Long, BeatenBy, KeepsAmong, Alike}
 use Rattle.theorems.specs.Ordered as ordered
 use Rattle.theorems.specs.Dropped.{query-passes, dropped-beaten-by-kept}
 use Rattle.theorems.specs.Among.{wider-asked, second-by-group}
