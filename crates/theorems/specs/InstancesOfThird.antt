@@ -1,5 +1,5 @@
--- The third signed sentence on records of kind 16, 17 and 18, with every hypothesis computed, each clause used on rows whose
--- answers are computed: none of them is empty. Assumes nothing.
+-- The third signed sentence on records of kind 16, 17 and 18, with every hypothesis computed, each clause used on rows
+-- whose answers are computed: none of them is empty. Assumes nothing.
 use mathlib.Core.Path.{_≡_, refl, sym, _∙_, subst}
 use mathlib.Core.Logic.{inl, inr, ⊎-elim}
 use mathlib.Core.Bool.{true, false}

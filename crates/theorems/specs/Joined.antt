@@ -1,5 +1,5 @@
--- The third signed sentence, joined of its parts (specs/Ordered, Dropped, Among, Placed, Alone, Equally), of the buffers that
--- Query wrote. Assumes nothing.
+-- The third signed sentence, joined of its parts (specs/Ordered, Dropped, Among, Placed, Alone, Equally), of the
+-- buffers that Query wrote. Assumes nothing.
 use mathlib.Core.Path.{_≡_, sym, _∙_, ap}
 use mathlib.Core.Logic.{_⊎_, inl, inr, _↔_}
 use mathlib.Core.Bool.{Bool, true, false, _&&_}

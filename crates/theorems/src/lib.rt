@@ -1,6 +1,6 @@
-// What is proved of the definitions of `model`: that they mean their sentences, and two sentences of document 01, "The calls".
-// Each function does nothing: its `ensures` is a theorem. What is in quotation marks is a sentence of the signed ones or of
-// document 01. `signed` has the second and the third signed sentence, `parts` the parts of the third.
+// What is proved of the definitions of `model`: that they mean their sentences, and two sentences of document 01, "The
+// calls". Each function does nothing: its `ensures` is a theorem. What is in quotation marks is a sentence of the
+// signed ones or of document 01. `signed` has the second and the third signed sentence, `parts` the parts of the third.
 ghost use mathlib.Core.Path.{_≡_};
 ghost use mathlib.Core.Logic.{_↔_};
 ghost use mathlib.Core.Bool.{Bool, true};
@@ -87,8 +87,8 @@ pub fn unread_columns()
         × (queryBuffer table columns rows term group a ≡ queryBuffer table columns rows′ term group a)) ⌝ }
 {}
 
-// "Rows kept ungrouped by a chain are equal in its columns, so a PRIOR with a chain on the left keeps what the right keeps
-// among the rows kept by the left": record k is of kind 17, and what is said of it holds in every group.
+// "Rows kept ungrouped by a chain are equal in its columns, so a PRIOR with a chain on the left keeps what the right
+// keeps among the rows kept by the left": record k is of kind 17, and what is said of it holds in every group.
 pub fn chain_cascade()
     ensures { λ _. ⌜ ((table : List ℕ) (columns : ℕ) (rows : List ℤ) (term : ℕ) → Asked table columns rows term 0
         → isChain (termAt table term) ≡ true → (a : List ℕ) → Long columns rows a

@@ -1,5 +1,5 @@
-// The parts of the third signed sentence as theorems with names of their own; `signed::third_sentence` joins them. "Keeps" is
-// here the test `keeps`, which reads `queryBuffer`, what both engines write. a, b and c are answer buffers.
+// The parts of the third signed sentence as theorems with names of their own; `signed::third_sentence` joins them.
+// "Keeps" is here the test `keeps`, which reads `queryBuffer`, what both engines write. a, b and c are answer buffers.
 ghost use mathlib.Core.Path.{_≡_};
 ghost use mathlib.Core.Logic.{_⊎_, _↔_};
 ghost use mathlib.Core.Bool.{true, false, _&&_};
@@ -105,8 +105,8 @@ pub fn prior_keeps()
         && keeps table columns rows (pAt table k) (bitOr group (columnsOf (termAt table (qAt table k)))) c i))) ⌝ }
 {}
 
-// "The query asks for that record, or for the part's own where a part alone keeps": of the table or of any of the three, the
-// part's own record answers alike.
+// "The query asks for that record, or for the part's own where a part alone keeps": of the table or of any of the
+// three, the part's own record answers alike.
 pub fn parts_alone()
     ensures { λ _. ⌜ ((table : List ℕ) (columns : ℕ) (rows : List ℤ) (k group : ℕ) → AskedTwo table columns rows k group
         → (a : List ℕ) → Long columns rows a → (part : ℕ) → (part ≡ pAt table k) ⊎ (part ≡ qAt table k)
@@ -115,9 +115,9 @@ pub fn parts_alone()
         × Alike table (equally table k) columns rows part group a) ⌝ }
 {}
 
-// "Keeps among the rows equal in the first's columns: no row of the set that equals the row in those columns is better under
-// the second. Query on the second gives this when the bits of those columns are set in the group byte too." The test, the
-// query and the sentence agree, for any two term records of the table.
+// "Keeps among the rows equal in the first's columns: no row of the set that equals the row in those columns is better
+// under the second. Query on the second gives this when the bits of those columns are set in the group byte too." The
+// test, the query and the sentence agree, for any two term records of the table.
 pub fn second_by_group()
     ensures { λ _. ⌜ ((table : List ℕ) (columns : ℕ) (rows : List ℤ) (first second group : ℕ)
         → TermRecord table columns first → Asked table columns rows second group

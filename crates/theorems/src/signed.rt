@@ -1,6 +1,7 @@
-// The second and the third signed sentence (document 00) on bytes, as document 01 spells them ("The calls", "What demand 3
-// says, word by word"), for whatever table, term, rows and group byte Query takes. The theorems are about the definitions
-// that the calls' contracts cite (`queryBuffer` is what both engines write); the crate `demands` says it of the calls.
+// The second and the third signed sentence (document 00) on bytes, as document 01 spells them ("The calls", "What
+// demand 3 says, word by word"), for whatever table, term, rows and group byte Query takes. The theorems are about the
+// definitions that the calls' contracts cite (`queryBuffer` is what both engines write); the crate `demands` says it of
+// the calls.
 ghost use mathlib.Core.Path.{_≡_};
 ghost use mathlib.Core.Logic.{_⊎_, _↔_};
 ghost use mathlib.Core.Bool.{true, false};
@@ -68,8 +69,8 @@ pub fn refusal_writes_nothing()
 
 // ---- the third signed sentence
 
-// "Take whatever table the check accepts, any of its terms, whatever rows and whichever grouping": the whole sentence, its
-// clauses in their order in `ThirdSentence` (specs/ThirdSentence).
+// "Take whatever table the check accepts, any of its terms, whatever rows and whichever grouping": the whole sentence,
+// its clauses in their order in `ThirdSentence` (specs/ThirdSentence).
 pub fn third_sentence()
     ensures { λ _. ⌜ ((table : List ℕ) (columns : ℕ) (rows : List ℤ) (term group : ℕ)
         → Asked table columns rows term group → ThirdSentence table columns rows term group) ⌝ }
@@ -82,8 +83,8 @@ pub fn query_refuses_none()
         × (TwoParts table term → PartsAnswer table columns rows term group)) ⌝ }
 {}
 
-// "Or when it is beaten under both placings but by no single row of the set under both": without this clause the sentence is
-// false, by document 01's rows (1,5) (5,1) (3,3).
+// "Or when it is beaten under both placings but by no single row of the set under both": without this clause the
+// sentence is false, by document 01's rows (1,5) (5,1) (3,3).
 pub fn third_clause_needed()
     ensures { λ _. ⌜ (((table : List ℕ) (columns : ℕ) (rows : List ℤ) (k group : ℕ) → Asked table columns rows k group
         → TwoParts table k → (a b c : List ℕ) → Wrote (equally table k) columns rows k group a
