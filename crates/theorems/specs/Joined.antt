@@ -117,6 +117,7 @@ alike-wrote table other columns rows term group alike a = (
 )
 
 module _ (table : List ℕ) (columns : ℕ) (rows : List ℤ) (k group : ℕ) (asked : AskedTwo table columns rows k group) where
+  -- What it says of two parts.
   of-two-parts : OfTwoParts table columns rows k group
   of-two-parts =
       let three = placings-accepted table columns (asked .isAccepted) k (asked .twoParts) in
@@ -160,6 +161,7 @@ module _ (table : List ℕ) (columns : ℕ) (rows : List ℤ) (k group : ℕ) (a
 
 -- ---- none is refused
 
+-- Query answers what can be asked,
 answers : (table : List ℕ) (columns : ℕ) (rows : List ℤ) (term group : ℕ) → Asked table columns rows term group
     → Answers table columns rows term group
 answers table columns rows term group asked before long = (
@@ -175,12 +177,14 @@ module _ (table : List ℕ) (columns : ℕ) (rows : List ℤ) (k group : ℕ) (a
   abbrev q : ℕ
   q = qAt table k
 
+  -- each part's own record
   of-left : Asked table columns rows (pAt table k) group
   of-left = left-part table columns rows k group asked
 
   of-right : Asked table columns rows (qAt table k) group
   of-right = right-part table columns rows k group asked
 
+  -- and all that is asked of two parts.
   parts-answer : PartsAnswer table columns rows k group
   parts-answer =
       record {
@@ -198,6 +202,7 @@ module _ (table : List ℕ) (columns : ℕ) (rows : List ℤ) (k group : ℕ) (a
 -- ---- the sentence
 
 module _ (table : List ℕ) (columns : ℕ) (rows : List ℤ) (term group : ℕ) (asked : Asked table columns rows term group) where
+  -- A record of two parts, asked.
   two : TwoParts table term → AskedTwo table columns rows term group
   two kinds =
       record {
