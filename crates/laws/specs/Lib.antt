@@ -30,7 +30,6 @@ pub mod Select
 pub mod Answers
 pub mod Placing
 pub mod Rows
-pub mod Entries
 pub mod Unread
 pub mod Chains
 pub mod Cascade
@@ -75,9 +74,6 @@ pub mod Placings
 pub mod TwoParts
 pub mod Among
 pub mod Listed
-pub mod Instances
-pub mod InstancesOfRows
-pub mod InstancesOfDemand
 pub mod Elimination
 pub mod Cases
 pub mod Rounds

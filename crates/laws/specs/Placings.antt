@@ -16,10 +16,10 @@ use Rattle.model.specs.Bytes.{byteAt}
 use Rattle.model.specs.Record.{recordCount, recordOf, recordAt, kindAt, pAt, qAt, isTerm}
 use Rattle.model.specs.Term.{Term, pair, termAmong, termAt, columnsOf}
 use Rattle.model.specs.Check.{checkReply}
-use Rattle.model.specs.Demand.{accepted, rewritten, leftFirst, rightFirst, equally}
+use Rattle.model.specs.Demand.{rewritten, leftFirst, rightFirst, equally}
 use Rattle.laws.specs.Bools.{on-or-off}
 use Rattle.laws.specs.Terms.{term-joined}
-use Rattle.laws.specs.Accepted.{Accepted, accepted-true}
+use Rattle.laws.specs.Accepted.{Accepted}
 use Rattle.laws.specs.AcceptedTable.{accepted-table}
 use Rattle.laws.specs.AcceptedTerms.{accepted-term}
 use Rattle.laws.specs.Agree.{term-agrees}
@@ -141,16 +141,3 @@ module _ (table : List ℕ) (columns : ℕ) (ok : Accepted table columns) (k : �
       rewritten-placed table columns ok k two-inside (two-parts table k two .0) Pareto 16 (pAt table k) (qAt table k)
       (pAt table k) (qAt table k) was
       (λ u v. refl) refl (inl (refl, refl))
-
--- Check replies to all three as to the table.
-pub placings-accepted : (table : List ℕ) (columns : ℕ) → accepted table columns ≡ true → (k : ℕ)
-    → TwoParts (kindAt table k)
-    → (checkReply (leftFirst table k) columns ≡ checkReply table columns)
-    × (checkReply (rightFirst table k) columns ≡ checkReply table columns)
-    × (checkReply (equally table k) columns ≡ checkReply table columns)
-placings-accepted table columns e k two =
-    let ok = accepted-true table columns .0 e in (
-      left-first table columns ok k two .reply,
-      right-first table columns ok k two .reply,
-      ranked-equally table columns ok k two .reply,
-    )

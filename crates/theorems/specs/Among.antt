@@ -12,10 +12,12 @@ use Rattle.model.specs.Better.{equal}
 use Rattle.model.specs.Query.{rowCount, rowAt, beatsIn}
 use Rattle.model.specs.Demand.{keeps, keepsAmong}
 use Rattle.laws.specs.Bools.{and-l, and-r, and-i}
-use Rattle.laws.specs.Columns.{equal-cells}
+use Rattle.laws.specs.Columns.{columns-below, equal-cells}
 use Rattle.laws.specs.Select.{kept-unbeaten}
 use Rattle.laws.specs.Rows.{beatsAmong}
-use Rattle.laws.specs.Among.{keeps-among-by-query}
+use Rattle.laws.specs.Accepted.{accepted-true}
+use Rattle.laws.specs.AcceptedTerms.{accepted-term}
+use Rattle.laws.specs.Among.{group-or, keeps-among-by-query}
 use Rattle.theorems.specs.Strictly.{TermRecord}
 use Rattle.theorems.specs.Asked.{Asked, Long, KeepsAmong}
 use Rattle.theorems.specs.Dropped.{beaten-by, by-beaten, query-passes}
@@ -39,6 +41,21 @@ module _ (table : List ℕ) (columns : ℕ) (rows : List ℤ) (first second grou
         λ u. w .1 (λ j h b. u j (equal-cells l (x i) (x j) .0 (and-l _ (beatsIn r columns rows group j i) b))
             (beaten-by table columns rows second group i j h (and-r (equal l (x i) (x j)) _ b))),
       )
+
+-- The second can be asked for with the bits of the first's columns set in the group byte too.
+pub wider-asked : (table : List ℕ) (columns : ℕ) (rows : List ℤ) (first second group : ℕ)
+    → TermRecord table columns first → Asked table columns rows second group
+    → Asked table columns rows second (bitOr group (columnsOf (termAt table first)))
+wider-asked table columns rows first second group t asked =
+    record {
+      ofTerm = asked .ofTerm;
+      rowsFit = asked .rowsFit;
+      groupFits = group-or columns group (columnsOf (termAt table first))
+          (columns-below columns (termAt table first)
+          (accepted-term table columns (accepted-true table columns .0 (t .isAccepted)) first (t .below) (t .isRecord)
+          .isWithin))
+          (asked .groupFits);
+    }
 
 -- Query on the second gives it when the bits of those columns are set in the group byte too.
 pub second-by-group : (table : List ℕ) (columns : ℕ) (rows : List ℤ) (first second group : ℕ)

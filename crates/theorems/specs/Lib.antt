@@ -1,15 +1,17 @@
--- What the third signed sentence is said of, in document 01's words; its theorems, one file for each; and an instance of
--- every theorem.
+-- What the third signed sentence is said of, in document 01's words; the sentence as one record; the theorems about its
+-- parts, one file for each, and the parts joined; two sentences on the calls; and instances.
 pub mod Strictly
 pub mod Asked
+pub mod ThirdSentence
 pub mod Ordered
 pub mod Dropped
 pub mod Among
 pub mod Placed
 pub mod Alone
 pub mod Equally
+pub mod Joined
 pub mod ThirdClause
 pub mod Unread
 pub mod Cascade
 pub mod Instances
-pub mod InstancesOfRows
+pub mod InstancesOfThird

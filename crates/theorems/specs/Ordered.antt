@@ -1,6 +1,7 @@
 -- A term record of an accepted table orders the rows strictly, and Compare's replies say so (document 01, "What demand 3
 -- says, word by word": "Strictly"). Assumes nothing.
-use mathlib.Core.Path.{_≡_}
+use mathlib.Core.Path.{_≡_, sym, _∙_, ap}
+use mathlib.Core.Logic.{_↔_}
 use mathlib.Core.Bool.{true}
 use mathlib.Core.List.{List}
 use Prim.Native.Nat.{ℕ}
@@ -12,6 +13,7 @@ use Rattle.model.specs.Compare.{outcome, compareReply}
 use Rattle.laws.specs.Sound.{sound, within}
 use Rattle.laws.specs.Strict as strict
 use Rattle.laws.specs.Outcome.{turned}
+use Rattle.laws.specs.Compared.{outcome-first}
 use Rattle.laws.specs.Accepted.{accepted-true}
 use Rattle.laws.specs.Taken.{TakenTerm, taken-sound}
 use Rattle.laws.specs.Replied.{compared-reply, reply-self, reply-turned, reply-chained}
@@ -21,6 +23,9 @@ use Rattle.theorems.specs.Strictly.{TermRecord}
 pub taken : (table : List ℕ) (columns term : ℕ) → TermRecord table columns term → TakenTerm table columns term
 taken table columns term t =
     record { isAccepted = accepted-true table columns .0 (t .isAccepted); below = t .below; isRecord = t .isRecord }
+
+first-given : (o : Outcome) → CompareReply.Compared o ≡ CompareReply.Compared Outcome.First → o ≡ Outcome.First
+first-given o e = cc
 
 module _ (table : List ℕ) (columns term : ℕ) (t : TermRecord table columns term) where
   good : (sound (termAt table term) ≡ true) × (within 8 (termAt table term) ≡ true)
@@ -60,3 +65,14 @@ module _ (table : List ℕ) (columns term : ℕ) (t : TermRecord table columns t
     outcome (termAt table term) x y,
     compared-reply table columns term (taken table columns term t) x y e f,
   )
+
+  -- A reply of first better is that the first is better.
+  pub compare-first : (x y : Row) → length x ≡ columns → length y ≡ columns
+      → (compareReply table columns term x y ≡ CompareReply.Compared Outcome.First)
+      ↔ (better (termAt table term) y x ≡ true)
+  compare-first x y e f =
+      let given = compared-reply table columns term (taken table columns term t) x y e f in
+      let w = outcome-first (termAt table term) (good .0) (good .1) x y in (
+        λ r. w .0 (first-given (outcome (termAt table term) x y) (sym given ∙ r)),
+        λ b. given ∙ ap CompareReply.Compared (w .1 b),
+      )

@@ -73,7 +73,7 @@ module _ (table : List ℕ) (columns : ℕ) (rows : List ℤ) (k group : ℕ) (a
   pub right-part : Asked table columns rows (qAt table k) group
   right-part = of-record table (asked .isAccepted) (qAt table k) (omega (arith, parts .right, inside)) (parts .rightTerm)
 
-  -- and the record in the two placings.
+  -- and the record in the two placings and ranking equally.
   pub left-placed : Asked (leftFirst table k) columns rows k group
   left-placed =
       let w = left-first table columns ok k (asked .twoParts) in
@@ -84,6 +84,12 @@ module _ (table : List ℕ) (columns : ℕ) (rows : List ℤ) (k group : ℕ) (a
   right-placed =
       let w = right-first table columns ok k (asked .twoParts) in
       of-record (rightFirst table k) (accepted-true (rightFirst table k) columns .1 (w .isAccepted)) k
+      (rw (w .count) inside) (w .isPlaced)
+
+  pub even-placed : Asked (equally table k) columns rows k group
+  even-placed =
+      let w = ranked-equally table columns ok k (asked .twoParts) in
+      of-record (equally table k) (accepted-true (equally table k) columns .1 (w .isAccepted)) k
       (rw (w .count) inside) (w .isPlaced)
 
   -- One placed before the other keeps a row exactly when the first keeps it and the second keeps it with the bits of the

@@ -1,186 +1,94 @@
-// The third signed sentence (document 00), whole, as document 01 spells it ("What demand 3 says, word by word"). Theorems
-// about the definitions that the calls' contracts cite, with an empty body; the crate `demands` says it of the calls
-// themselves. "Keeps" is that Query, by either engine, gives row i the entry i: `keeps` reads `queryBuffer`, which is what
-// both engines write. a, b and c are answer buffers.
+// The second and the third signed sentence (document 00) on bytes, as document 01 spells them ("The calls", "What
+// demand 3 says, word by word"), for whatever table, term, rows and group byte Query takes. The theorems are about the
+// definitions that the calls' contracts cite (`queryBuffer` is what both engines write); the crate `demands` says it of
+// the calls.
 ghost use mathlib.Core.Path.{_≡_};
 ghost use mathlib.Core.Logic.{_⊎_, _↔_};
-ghost use mathlib.Core.Bool.{true, false, _&&_};
+ghost use mathlib.Core.Bool.{true, false};
 ghost use mathlib.Core.List.{List};
-ghost use Prim.Native.Nat.{ℕ, _<_};
-ghost use lib.Bits.{bitOr};
+ghost use Prim.Native.Nat.{ℕ, _<_, _≤_};
+ghost use lib.Dec.{eqb};
 ghost use lib.IntN.{ℤ};
 ghost use lib.ListN.{length, getD};
-ghost use Rattle.model.specs.declared.{Outcome.Outcome, CompareReply.CompareReply};
-ghost use Rattle.model.specs.Record.{kindAt, pAt, qAt};
-ghost use Rattle.model.specs.Term.{termAt, columnsOf};
-ghost use Rattle.model.specs.Better.{Row, EqualIn, better};
-ghost use Rattle.model.specs.Check.{checkReply};
-ghost use Rattle.model.specs.Compare.{compareReply};
-ghost use Rattle.model.specs.Query.{rowCount, rowAt, queryReply, queryBuffer};
-ghost use Rattle.model.specs.Demand.{isChain, accepted, leftFirst, rightFirst, equally, keeps, keepsAmong};
-ghost use Rattle.laws.specs.Outcome.{turned};
-ghost use Rattle.theorems.specs.Strictly.{TermRecord};
-ghost use Rattle.theorems.specs.Asked.{Asked, TwoParts, AskedTwo, Long, Alike};
-ghost use Rattle.theorems.specs.Asked.{BeatenBy, BeatenApart, KeepsAmong};
+ghost use Rattle.model.specs.declared.{Refusal.Refusal, Verdict.Verdict, QueryReply.QueryReply};
+ghost use Rattle.model.specs.Search.{countBelow};
+ghost use Rattle.model.specs.Term.{termAt};
+ghost use Rattle.model.specs.Query.{Unbeaten, LowestKept, rowCount, beatsIn};
+ghost use Rattle.model.specs.Query.{queryVerdict, queryReply, queryBuffer};
+ghost use Rattle.model.specs.Demand.{leftFirst, rightFirst, equally, keeps};
+ghost use Rattle.laws.specs.Taken.{Taken};
+ghost use Rattle.theorems.specs.Asked.{Asked, TwoParts};
+ghost use Rattle.theorems.specs.ThirdSentence.{Wrote, Keeps, ThirdSentence, Answers, PartsAnswer};
 
-// ---- "the term orders the rows strictly"
+// ---- the second signed sentence
 
-// "None is better than itself."
-pub fn irreflexive()
-    ensures { λ _. ⌜ ((table : List ℕ) (columns term : ℕ) → TermRecord table columns term → (x : Row)
-        → better (termAt table term) x x ≡ true → ⊥) ⌝ }
+// Query refuses nothing exactly when the table is accepted, the number is a term record, and the rows, the group byte and
+// the buffer fit.
+pub fn query_takes()
+    ensures { λ _. ⌜ ((table : List ℕ) (columns : ℕ) (rows : List ℤ) (term group : ℕ) (before : List ℕ)
+        → (queryVerdict table columns rows term group before ≡ Verdict.Passed)
+        ↔ Taken table columns rows term group before) ⌝ }
 {}
 
-// "And better than better is better."
-pub fn transitive()
-    ensures { λ _. ⌜ ((table : List ℕ) (columns term : ℕ) → TermRecord table columns term → (x y z : Row)
-        → better (termAt table term) x y ≡ true → better (termAt table term) y z ≡ true
-        → better (termAt table term) x z ≡ true) ⌝ }
+// "A row is kept when no row of the set is better, and only then."
+pub fn keeps_is_unbeaten()
+    ensures { λ _. ⌜ ((table : List ℕ) (columns : ℕ) (rows : List ℤ) (k group : ℕ) (before : List ℕ)
+        → queryVerdict table columns rows k group before ≡ Verdict.Passed → (i : ℕ) → i < rowCount columns rows
+        → (keeps table columns rows k group before i ≡ true)
+        ↔ Unbeaten (rowCount columns rows) (beatsIn (termAt table k) columns rows group) i) ⌝ }
 {}
 
-// "what is claimed of better holds in Compare's replies too, for any rows x, y, z of the count's length"
-
-// "x against x gives same."
-pub fn compare_same()
-    ensures { λ _. ⌜ ((table : List ℕ) (columns term : ℕ) → TermRecord table columns term → (x : Row) → length x ≡ columns
-        → compareReply table columns term x x ≡ CompareReply.Compared Outcome.Same) ⌝ }
+// "Every dropped row names the lowest-numbered kept row that is better."
+pub fn drops_name_lowest()
+    ensures { λ _. ⌜ ((table : List ℕ) (columns : ℕ) (rows : List ℤ) (k group : ℕ) (before : List ℕ)
+        → queryVerdict table columns rows k group before ≡ Verdict.Passed
+        → (i d : ℕ) → i < rowCount columns rows → keeps table columns rows k group before i ≡ false
+        → LowestKept (rowCount columns rows) (beatsIn (termAt table k) columns rows group) i
+        (getD (queryBuffer table columns rows k group before) i d)) ⌝ }
 {}
 
-// "Where x, y gives first better, y, x gives second better, and the other way about; same and unranked don't change when
-// the rows change places."
-pub fn compare_turned()
-    ensures { λ _. ⌜ ((table : List ℕ) (columns term : ℕ) → TermRecord table columns term → (x y : Row)
-        → length x ≡ columns → length y ≡ columns → (o : Outcome)
-        → compareReply table columns term x y ≡ CompareReply.Compared o
-        → compareReply table columns term y x ≡ CompareReply.Compared (turned o)) ⌝ }
+// The kept count "equals the number of rows whose entry holds their own number". "Entries after the last row keep their
+// contents."
+pub fn gives_and_writes()
+    ensures { λ _. ⌜ ((table : List ℕ) (columns : ℕ) (rows : List ℤ) (k group : ℕ) (before : List ℕ)
+        → queryVerdict table columns rows k group before ≡ Verdict.Passed → (d : ℕ)
+        → (queryReply table columns rows k group before
+        ≡ QueryReply.Kept (countBelow (rowCount columns rows)
+        (λ i. eqb (getD (queryBuffer table columns rows k group before) i d) i)))
+        × (length (queryBuffer table columns rows k group before) ≡ length before)
+        × ((i : ℕ) → rowCount columns rows ≤ i
+        → getD (queryBuffer table columns rows k group before) i d ≡ getD before i d)) ⌝ }
 {}
 
-// "Where x, y and y, z give first better, so does x, z."
-pub fn compare_chained()
-    ensures { λ _. ⌜ ((table : List ℕ) (columns term : ℕ) → TermRecord table columns term → (x y z : Row)
-        → length x ≡ columns → length y ≡ columns → length z ≡ columns
-        → compareReply table columns term x y ≡ CompareReply.Compared Outcome.First
-        → compareReply table columns term y z ≡ CompareReply.Compared Outcome.First
-        → compareReply table columns term x z ≡ CompareReply.Compared Outcome.First) ⌝ }
+// "No refusal writes anything."
+pub fn refusal_writes_nothing()
+    ensures { λ _. ⌜ ((table : List ℕ) (columns : ℕ) (rows : List ℤ) (term group : ℕ) (before : List ℕ) (why : Refusal)
+        → queryVerdict table columns rows term group before ≡ Verdict.Refused why
+        → queryBuffer table columns rows term group before ≡ before) ⌝ }
 {}
 
-// None of these calls is refused.
-pub fn compare_refuses_none()
-    ensures { λ _. ⌜ ((table : List ℕ) (columns term : ℕ) → TermRecord table columns term → (x y : Row)
-        → length x ≡ columns → length y ≡ columns
-        → (o : Outcome) × (compareReply table columns term x y ≡ CompareReply.Compared o)) ⌝ }
-{}
+// ---- the third signed sentence
 
-// ---- two parts: a record of kind 16, 17 or 18, its two placings, and ranking equally
-
-// "Check accepts each of the three", with the reply that the table itself gets.
-pub fn placings_accepted()
-    ensures { λ _. ⌜ ((table : List ℕ) (columns : ℕ) → accepted table columns ≡ true → (k : ℕ) → TwoParts table k
-        → ((accepted (leftFirst table k) columns ≡ true)
-        × (checkReply (leftFirst table k) columns ≡ checkReply table columns))
-        × ((accepted (rightFirst table k) columns ≡ true)
-        × (checkReply (rightFirst table k) columns ≡ checkReply table columns))
-        × ((accepted (equally table k) columns ≡ true)
-        × (checkReply (equally table k) columns ≡ checkReply table columns))) ⌝ }
-{}
-
-// "One placed before the other keeps a row exactly when the first keeps it and the second keeps it among the rows of the
-// set that equal it in the first's columns": the left first, and the right first. The parts are asked for by their own
-// records, the second with the bits of the first's columns set in the group byte too.
-pub fn prior_keeps()
-    ensures { λ _. ⌜ ((table : List ℕ) (columns : ℕ) (rows : List ℤ) (k group : ℕ) → AskedTwo table columns rows k group
-        → (i : ℕ) → i < rowCount columns rows → (a b c : List ℕ)
-        → Long columns rows a → Long columns rows b → Long columns rows c
-        → (keeps (leftFirst table k) columns rows k group a i
-        ≡ (keeps table columns rows (pAt table k) group b i
-        && keeps table columns rows (qAt table k) (bitOr group (columnsOf (termAt table (pAt table k)))) c i))
-        × (keeps (rightFirst table k) columns rows k group a i
-        ≡ (keeps table columns rows (qAt table k) group b i
-        && keeps table columns rows (pAt table k) (bitOr group (columnsOf (termAt table (qAt table k)))) c i))) ⌝ }
-{}
-
-// "The query asks for that record, or for the part's own where a part alone keeps": of the table or of any of the three, the
-// part's own record answers alike.
-pub fn parts_alone()
-    ensures { λ _. ⌜ ((table : List ℕ) (columns : ℕ) (rows : List ℤ) (k group : ℕ) → AskedTwo table columns rows k group
-        → (a : List ℕ) → Long columns rows a → (part : ℕ) → (part ≡ pAt table k) ⊎ (part ≡ qAt table k)
-        → Alike table (leftFirst table k) columns rows part group a
-        × Alike table (rightFirst table k) columns rows part group a
-        × Alike table (equally table k) columns rows part group a) ⌝ }
-{}
-
-// "Keeps among the rows equal in the first's columns: no row of the set that equals the row in those columns is better under
-// the second. Query on the second gives this when the bits of those columns are set in the group byte too." The test, the
-// query and the sentence agree, for any two term records of the table.
-pub fn second_by_group()
-    ensures { λ _. ⌜ ((table : List ℕ) (columns : ℕ) (rows : List ℤ) (first second group : ℕ)
-        → TermRecord table columns first → Asked table columns rows second group
-        → (i : ℕ) → i < rowCount columns rows → (a : List ℕ) → Long columns rows a
-        → (keepsAmong table columns rows first second group i
-        ≡ keeps table columns rows second (bitOr group (columnsOf (termAt table first))) a i)
-        × ((keepsAmong table columns rows first second group i ≡ true)
-        ↔ KeepsAmong table columns rows first second group i)) ⌝ }
-{}
-
-// "The same two, ranking equally, keep a row exactly when at least one of the two placings keeps it, or when it is beaten
-// under both placings but by no single row of the set under both."
-pub fn pareto_keeps()
-    ensures { λ _. ⌜ ((table : List ℕ) (columns : ℕ) (rows : List ℤ) (k group : ℕ) → AskedTwo table columns rows k group
-        → (i : ℕ) → i < rowCount columns rows → (a b c : List ℕ)
-        → Long columns rows a → Long columns rows b → Long columns rows c
-        → (keeps (equally table k) columns rows k group a i ≡ true)
-        ↔ ((keeps (leftFirst table k) columns rows k group b i ≡ true)
-        ⊎ ((keeps (rightFirst table k) columns rows k group c i ≡ true)
-        ⊎ BeatenApart (leftFirst table k) (rightFirst table k) columns rows k group i))) ⌝ }
-{}
-
-// Without its last clause that is false: document 01's rows (1,5) (5,1) (3,3).
-pub fn third_clause_needed()
-    ensures { λ _. ⌜ (((table : List ℕ) (columns : ℕ) (rows : List ℤ) (k group : ℕ) → AskedTwo table columns rows k group
-        → (i : ℕ) → i < rowCount columns rows → (a b c : List ℕ)
-        → Long columns rows a → Long columns rows b → Long columns rows c
-        → (keeps (equally table k) columns rows k group a i ≡ true)
-        ↔ ((keeps (leftFirst table k) columns rows k group b i ≡ true)
-        ⊎ (keeps (rightFirst table k) columns rows k group c i ≡ true)))
-        → ⊥) ⌝ }
-{}
-
-// ---- the rows that are dropped, and what has no bearing
-
-// "Every dropped row is beaten by a kept row of the set": by the one that its entry names.
-pub fn dropped_beaten_by_kept()
+// "Take whatever table the check accepts, any of its terms, whatever rows and whichever grouping": the whole sentence,
+// its clauses in their order in `ThirdSentence` (specs/ThirdSentence).
+pub fn third_sentence()
     ensures { λ _. ⌜ ((table : List ℕ) (columns : ℕ) (rows : List ℤ) (term group : ℕ)
-        → Asked table columns rows term group → (a : List ℕ) → Long columns rows a
-        → (i : ℕ) → i < rowCount columns rows → keeps table columns rows term group a i ≡ false
-        → (j : ℕ) × BeatenBy table columns rows term group i j × (keeps table columns rows term group a j ≡ true)
-        × (getD (queryBuffer table columns rows term group a) i 0 ≡ j)) ⌝ }
+        → Asked table columns rows term group → ThirdSentence table columns rows term group) ⌝ }
 {}
 
-// "Columns that neither the term nor the group reads have no bearing on the answers" ("The calls"): two runs of one length
-// whose rows agree in the columns that the term or the group reads get one reply and one answer buffer. Of any bytes.
-pub fn unread_columns()
-    ensures { λ _. ⌜ ((table : List ℕ) (columns : ℕ) (rows rows′ : List ℤ) (term group : ℕ) (a : List ℕ)
-        → length rows ≡ length rows′
-        → ((i : ℕ) → i < rowCount columns rows
-        → EqualIn (columnsOf (termAt table term)) (rowAt columns rows i) (rowAt columns rows′ i))
-        → ((i : ℕ) → i < rowCount columns rows → EqualIn group (rowAt columns rows i) (rowAt columns rows′ i))
-        → (queryReply table columns rows term group a ≡ queryReply table columns rows′ term group a)
-        × (queryBuffer table columns rows term group a ≡ queryBuffer table columns rows′ term group a)) ⌝ }
+// None of the queries that it speaks of is refused, "with answer buffers long enough".
+pub fn query_refuses_none()
+    ensures { λ _. ⌜ ((table : List ℕ) (columns : ℕ) (rows : List ℤ) (term group : ℕ)
+        → Asked table columns rows term group → Answers table columns rows term group
+        × (TwoParts table term → PartsAnswer table columns rows term group)) ⌝ }
 {}
 
-// "Rows kept ungrouped by a chain are equal in its columns, so a PRIOR with a chain on the left keeps what the right keeps
-// among the rows kept by the left" ("The calls"): record k is of kind 17, and what is said of it holds in every group.
-pub fn chain_cascade()
-    ensures { λ _. ⌜ ((table : List ℕ) (columns : ℕ) (rows : List ℤ) (term : ℕ) → Asked table columns rows term 0
-        → isChain (termAt table term) ≡ true → (a : List ℕ) → Long columns rows a
-        → (i j : ℕ) → i < rowCount columns rows → j < rowCount columns rows
-        → keeps table columns rows term 0 a i ≡ true → keeps table columns rows term 0 a j ≡ true
-        → EqualIn (columnsOf (termAt table term)) (rowAt columns rows i) (rowAt columns rows j))
-        × ((table : List ℕ) (columns : ℕ) (rows : List ℤ) (k group : ℕ) → Asked table columns rows k group
-        → kindAt table k ≡ 17 → isChain (termAt table (pAt table k)) ≡ true
-        → (a b : List ℕ) → Long columns rows a → Long columns rows b → (i : ℕ) → i < rowCount columns rows
-        → (keeps table columns rows k group a i ≡ true)
-        ↔ ((keeps table columns rows (pAt table k) group b i ≡ true)
-        × ((j : ℕ) → keeps table columns rows (pAt table k) group b j ≡ true
-        → BeatenBy table columns rows (qAt table k) group i j → ⊥))) ⌝ }
+// "Or when it is beaten under both placings but by no single row of the set under both": without this clause the
+// sentence is false, by document 01's rows (1,5) (5,1) (3,3).
+pub fn third_clause_needed()
+    ensures { λ _. ⌜ (((table : List ℕ) (columns : ℕ) (rows : List ℤ) (k group : ℕ) → Asked table columns rows k group
+        → TwoParts table k → (a b c : List ℕ) → Wrote (equally table k) columns rows k group a
+        → Wrote (leftFirst table k) columns rows k group b → Wrote (rightFirst table k) columns rows k group c
+        → (i : ℕ) → i < rowCount columns rows → Keeps a i ↔ (Keeps b i ⊎ Keeps c i))
+        → ⊥) ⌝ }
 {}

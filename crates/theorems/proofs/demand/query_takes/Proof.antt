@@ -1,7 +1,0 @@
--- `theorems::demand::query_takes`: proved in specs/Taken of `laws`. Assumes nothing.
-use Rattle.laws.specs.Taken.{taken-exactly}
-use Rattle.theorems.proofs.demand.query_takes.Statement.{statement}
-use Rattle.theorems.proofs.demand.query_takes.Tie as tie
-
-pub query-takes-spec : {M : Type 1} → statement M
-query-takes-spec = tie.close (tie.spec (λ c. taken-exactly))

@@ -1,7 +1,0 @@
--- `theorems::third_clause_needed`: proved in specs/InstancesOfRows of `laws`. Assumes nothing.
-use Rattle.laws.specs.InstancesOfRows.{third-clause-needed}
-use Rattle.theorems.proofs.third_clause_needed.Statement.{statement}
-use Rattle.theorems.proofs.third_clause_needed.Tie as tie
-
-pub third-clause-needed-spec : {M : Type 1} → statement M
-third-clause-needed-spec = tie.close (tie.spec (λ c. third-clause-needed))
