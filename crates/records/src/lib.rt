@@ -1,6 +1,5 @@
 // A table's records (document 01, "The table"): their fields, what they stand for, and how they hang together. Past the
-// table's end every byte reads as 0, so that each function takes any record number, but for those in `vetted`.
+// table's end every byte reads as 0, so that each function takes any record number.
 pub mod parts;
 pub mod record;
 pub mod values;
-pub mod vetted;

@@ -1,6 +1,5 @@
 // A table's records (document 01, "The table"): their fields, and what they stand for. Past the table's end every byte
 // reads as 0, so that each function takes any record number.
-use crate::vetted::word_in;
 use model::BaseTerm;
 use model::CompoundTerm;
 use model::Pair;
@@ -9,6 +8,7 @@ use model::Record;
 use model::Value;
 ghost use mathlib.Core.Path.{_≡_};
 ghost use Prim.Native.Nat.{_+_, _*_, _<_};
+ghost use lib.ListN.{length};
 ghost use Rattle.model.specs.Bytes.{byteAt, wordAt, signed};
 ghost use Rattle.model.specs.Record.{kindAt, pAt, qAt, sAt, uAt, vAt, recordOf, recordAt};
 ghost use Rattle.records.specs.Fields.{uWord, vWord};
@@ -127,8 +127,16 @@ fn word_at(bytes: &[u8], at: usize) -> u32
     )
 }
 
+// The four bytes from `at` on, where all are there.
+fn word_in(bytes: &[u8], at: usize) -> u32
+    requires { ⌜ (at < 65536) × (at + 3 < length (now bytes)) ⌝ }
+    ensures { λ r. ⌜ r ≡ wordAt (now (bytes .entry)) at ⌝ }
+{
+    word_of(bytes[at], bytes[at + 1], bytes[at + 2], bytes[at + 3])
+}
+
 // Four bytes as a number, low byte first.
-pub fn word_of(a: u8, b: u8, c: u8, d: u8) -> u32
+fn word_of(a: u8, b: u8, c: u8, d: u8) -> u32
     ensures { λ r. ⌜ r ≡ a + 256 * b + 65536 * c + 16777216 * d ⌝ }
 {
     wide(a) + 256 * wide(b) + 65536 * wide(c) + 16777216 * wide(d)

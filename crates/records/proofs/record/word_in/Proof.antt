@@ -1,8 +1,8 @@
--- `records::vetted::word_in` meets its contract. Assumes nothing.
+-- `records::record::word_in` meets its contract. Assumes nothing.
 use borrow.Author.Needs.{needs}
 use Rattle.model.specs.Bytes.{byteAt, wordAt}
-use Rattle.records.proofs.vetted.word_in.Statement.{statement}
-use Rattle.records.proofs.vetted.word_in.Tie as tie
+use Rattle.records.proofs.record.word_in.Statement.{statement}
+use Rattle.records.proofs.record.word_in.Tie as tie
 
 shared-slice-read-word-of : tie.Need-shared-slice-read-word-of
 shared-slice-read-word-of c = search needs
