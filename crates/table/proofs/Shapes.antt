@@ -1,11 +1,10 @@
--- KIND and COLUMN look at a record's kind and p alone, and STRAY at the kind of the term. Assumes nothing.
-use mathlib.Core.Path.{_≡_, refl, sym, _∙_, ap}
+-- KIND looks at a record's kind alone, COLUMN at kind and p, and STRAY at the kind of the term. Assumes nothing.
+use mathlib.Core.Path.{_≡_, refl}
 use mathlib.Core.Bool.{Bool, true, false, cond}
-use mathlib.Core.List.{List}
 use Prim.Native.Nat.{ℕ}
 use lib.IntN.{ℤ, pos}
 use Rattle.model.specs.declared.{Record.Record}
-use Rattle.model.specs.Record.{kindAt, pAt, qAt, uAt, vAt, recordOf, recordAt, rolesOf}
+use Rattle.model.specs.Record.{recordOf, rolesOf}
 use Rattle.model.specs.Check.{failsKind, failsColumn}
 
 -- What is told of one of two records is told of each.
@@ -14,7 +13,7 @@ by-cond f true x y = refl
 by-cond f false x y = refl
 
 module _ (kind p q : ℕ) (u v : ℤ) where
-  pub kind-shape : failsKind (recordOf kind p 0 (pos 0) (pos 0)) ≡ failsKind (recordOf kind p q u v)
+  pub kind-shape : failsKind (recordOf kind 0 0 (pos 0) (pos 0)) ≡ failsKind (recordOf kind p q u v)
   unfolding recordOf
   kind-shape = simp (by-cond failsKind)
 
@@ -25,16 +24,3 @@ module _ (kind p q : ℕ) (u v : ℤ) where
   pub roles-shape : rolesOf (recordOf kind 0 0 (pos 0) (pos 0)) ≡ rolesOf (recordOf kind p q u v)
   unfolding recordOf
   roles-shape = simp (by-cond rolesOf)
-
--- KIND and COLUMN told of such a record of k's kind and p.
-module _ (table : List ℕ) (k : ℕ) (kind p : ℕ) (r : Record) (e : r ≡ recordOf kind p 0 (pos 0) (pos 0))
-    (is-kind : kind ≡ kindAt table k) (is-p : p ≡ pAt table k) where
-  pub kind-told : failsKind r ≡ failsKind (recordAt table k)
-  unfolding recordAt
-  kind-told = ap failsKind e ∙ rw (is-kind, is-p) (kind-shape (kindAt table k) (pAt table k) (qAt table k) (uAt table k) (vAt table k))
-
-  pub column-told : (columns : ℕ) → failsColumn columns r ≡ failsColumn columns (recordAt table k)
-  unfolding recordAt
-  column-told columns =
-      ap (failsColumn columns) e
-      ∙ rw (is-kind, is-p) (column-shape (kindAt table k) (pAt table k) (qAt table k) (uAt table k) (vAt table k) columns)

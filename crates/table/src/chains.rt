@@ -12,9 +12,6 @@ use crate::steps::refuse_or;
 use model::MOST_VALUES;
 use model::Refusal;
 use model::Verdict;
-use records::record::kind_at;
-use records::record::p_at;
-use records::record::record_of;
 ghost use mathlib.Core.Path.{_≡_};
 ghost use Rattle.model.specs.declared.Verdict.the-variants.{Passed};
 ghost use Rattle.model.specs.Record.{nearestTerm};
@@ -22,7 +19,7 @@ ghost use Rattle.table.specs.Filler.{ZeroRows};
 ghost use Rattle.table.specs.Carried.{Carried};
 ghost use Rattle.table.specs.Judging.{judgeFields, judgeRun, ValueFielded};
 
-// 3 to 8. KIND and COLUMN look at kind and p alone, so that no number is decoded for them.
+// 3 to 8.
 pub fn judge_fields(
     table: &[u8],
     columns: u8,
@@ -35,14 +32,13 @@ pub fn judge_fields(
     requires { ⌜ Carried (now table) k near (now terms) (now used) × ZeroRows (now zero) ⌝ }
     ensures { λ r. ⌜ r ≡ judgeFields (now (table .entry)) columns k Passed ⌝ }
 {
-    let r = record_of(kind_at(table, k), p_at(table, k), 0, 0, 0);
-    if fails_kind(r) {
+    if fails_kind(table, k) {
         return Verdict::Refused(Refusal::Kind(k));
     }
     if fails_filler(table, k, zero) {
         return Verdict::Refused(Refusal::Filler(k));
     }
-    if fails_column(columns, r) {
+    if fails_column(table, columns, k) {
         return Verdict::Refused(Refusal::Column(k));
     }
     if fails_part(table, k, terms) {
@@ -57,7 +53,7 @@ pub fn judge_fields(
     Verdict::Passed
 }
 
-// 9 to 11, of a value of term `near`, from the last rule to the first. LOOP looks at no more than 16 edges, so that CROWD goes first.
+// 9 to 11, of a value of term `near`, the last rule first. LOOP looks at no more than 16 edges, so that CROWD goes first.
 pub fn judge_run(table: &[u8], columns: u8, k: u8, near: u8) -> Verdict
     requires { ⌜ ValueFielded (now table) columns k × (near ≡ nearestTerm (now table) k) ⌝ }
     ensures { λ r. ⌜ r ≡ judgeRun (now (table .entry)) k Passed ⌝ }

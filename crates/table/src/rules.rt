@@ -1,5 +1,5 @@
 // The refusals of document 01, one function each: 1 to 8 and 12, save FILLER, which stands in `filler`. PART, REUSED and STRAY
-// take what the check carries up to the record. CLASH and LOOP, which look at a term's earlier values, stand in `runs`; CROWD
+// take what the check carries up to the record. What a kind or p alone says is told without the record's numbers. CLASH and LOOP, which look at a term's earlier values, stand in `runs`; CROWD
 // in `chains`, APART in `apart`, the order of all of them in `judging`, and LOOSE in `verdict`.
 use model::MOST_COLUMNS;
 use model::MOST_TABLE_BYTES;
@@ -13,7 +13,7 @@ use records::record::u_at;
 use records::record::v_at;
 use records::values::takes_role;
 ghost use mathlib.Core.Path.{_≡_};
-ghost use Rattle.model.specs.Record.{nearestTerm};
+ghost use Rattle.model.specs.Record.{recordAt, nearestTerm};
 ghost use Rattle.model.specs.Check.{failsWidth, failsLength, failsKind, failsColumn, failsPart, failsReused, failsStray, failsBounds};
 ghost use Rattle.table.specs.Carried.{TermsBelow, UsedBelow};
 
@@ -33,7 +33,13 @@ pub fn fails_length(table: &[u8]) -> bool
 }
 
 // 3 KIND: kind not in the list.
-pub fn fails_kind(r: Record) -> bool
+pub fn fails_kind(table: &[u8], k: u8) -> bool
+    ensures { λ r. ⌜ r ≡ failsKind (recordAt (now (table .entry)) k) ⌝ }
+{
+    is_unknown(record_of(kind_at(table, k), 0, 0, 0, 0))
+}
+
+fn is_unknown(r: Record) -> bool
     ensures { λ b. ⌜ b ≡ failsKind r ⌝ }
 {
     match r {
@@ -45,7 +51,16 @@ pub fn fails_kind(r: Record) -> bool
 }
 
 // 5 COLUMN: base term's column not below the count.
-pub fn fails_column(columns: u8, r: Record) -> bool
+pub fn fails_column(table: &[u8], columns: u8, k: u8) -> bool
+    ensures { λ r. ⌜ r ≡ failsColumn columns (recordAt (now (table .entry)) k) ⌝ }
+{
+    reads_past(
+        columns,
+        record_of(kind_at(table, k), p_at(table, k), 0, 0, 0),
+    )
+}
+
+fn reads_past(columns: u8, r: Record) -> bool
     ensures { λ b. ⌜ b ≡ failsColumn columns r ⌝ }
 {
     match r {

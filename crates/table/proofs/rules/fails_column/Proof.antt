@@ -1,33 +1,37 @@
 -- `table::rules::fails_column` meets its contract. Assumes nothing.
+use mathlib.Core.Path.{_∙_, ap}
+use denote.Ref.{now}
 use borrow.Author.Needs.{needs}
+use Rattle.model.specs.Record.{kindAt, pAt, qAt, uAt, vAt, recordAt}
+use Rattle.model.specs.Check.{failsColumn}
+use Rattle.table.proofs.Shapes.{column-shape}
 use Rattle.table.proofs.rules.fails_column.Statement.{statement}
 use Rattle.table.proofs.rules.fails_column.Tie as tie
 
-enum-known-r : tie.Need-enum-known-r
-enum-known-r c = search needs
+kind-at-requires : tie.Need-kind-at-requires
+kind-at-requires c κs = search needs
 
-enum-told : tie.Need-enum-told
-enum-told c = search needs
+p-at-requires : tie.Need-p-at-requires
+p-at-requires c κs = search needs
 
-enum-told-2 : tie.Need-enum-told-2
-enum-told-2 c = search needs
+record-of-requires : tie.Need-record-of-requires
+record-of-requires c κs = search needs
 
-enum-told-3 : tie.Need-enum-told-3
-enum-told-3 c = search needs
+reads-past-requires : tie.Need-reads-past-requires
+reads-past-requires c κs = search needs
 
 returns : tie.Need-returns
-returns c = rw (c .before .r .given .1)
-
-returns-2 : tie.Need-returns-2
-returns-2 c = search needs
-
-returns-3 : tie.Need-returns-3
-returns-3 c = search needs
-
-returns-4 : tie.Need-returns-4
-returns-4 c = search needs
+unfolding recordAt
+returns c =
+    let r = c .before in
+    let p = r .before in
+    let n = p .before in
+    let a = n .before .before .args in
+    let t = now (a .table) in
+    let k = a .k in
+    c .reads-past .ensures ∙ ap (failsColumn (a .columns)) (r .record-of .ensures)
+    ∙ rw (n .kind-at .ensures, p .p-at .ensures) (column-shape (kindAt t k) (pAt t k) (qAt t k) (uAt t k) (vAt t k) (a .columns))
 
 pub fails-column-spec : {M : Type 1} → statement M
 fails-column-spec =
-    tie.close
-    (tie.spec enum-known-r enum-told enum-told-2 enum-told-3 returns returns-2 returns-3 returns-4)
+    tie.close (tie.spec kind-at-requires p-at-requires record-of-requires reads-past-requires returns)
