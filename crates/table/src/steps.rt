@@ -1,4 +1,4 @@
-// One rule of a record, the step that every chain of rules is made of. specs/Judging has the steps of one record.
+// One rule of a record, the step that 9 to 13 are made of. specs/Judging has the steps of one record.
 use model::Refusal;
 use model::Verdict;
 ghost use mathlib.Core.Path.{_≡_};
