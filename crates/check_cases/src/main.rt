@@ -1,5 +1,6 @@
 // Runs the check on the cases of the file stdin, a line for each. The file stdout has the answers, written by hand from
-// document 01. The head of a case is the column count, and the length in bytes where it is not that of the records.
+// the specification. The head of a case is the column count, and the length in bytes where it is not that of the
+// records.
 use case_lines::read;
 use case_lines::say;
 use model::CheckReply;

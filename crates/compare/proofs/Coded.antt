@@ -1,4 +1,4 @@
--- The code of two different values by their ranks (document 01, "Compare"). Assumes nothing.
+-- The code of two different values by their ranks (SPECIFICATION, "Compare"). Assumes nothing.
 use mathlib.Core.Path.{_≡_}
 use mathlib.Core.List.{List}
 use Prim.Native.Nat.{ℕ}

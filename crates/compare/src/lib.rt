@@ -1,4 +1,4 @@
-// Two rows compared under a term (document 01, "Compare").
+// Two rows compared under a term (SPECIFICATION, "Compare").
 mod compared;
 mod outcomes;
 pub mod vetted;

@@ -1,6 +1,6 @@
 // Runs Compare and Perfect on the cases of the file stdin, a line for each. The file stdout has the answers, written by hand
-// from document 01. The head of a case is the call's name, the column count, the term's record number, and the table's length
-// in bytes where it is not that of the records. Two rows follow for compare, one for perfect.
+// from the specification. The head of a case is the call's name, the column count, the term's record number, and the table's
+// length in bytes where it is not that of the records. Two rows follow for compare, one for perfect.
 use case_lines::read;
 use case_lines::say;
 use model::CompareReply;

@@ -1,4 +1,4 @@
--- The rows of a run as parts of it (document 01, "The calls"). Assumes nothing.
+-- The rows of a run as parts of it (SPECIFICATION, "The calls"). Assumes nothing.
 use mathlib.Core.List.{List}
 use Prim.Native.Nat.{ℕ, _+_, _*_, _<_, _≤_}
 use native.Mathlib.Nat.{le-trans, mul-le-mul}

@@ -1,5 +1,5 @@
 -- Whether two replies of Query and two answer buffers are the same (the second signed sentence, "Both engines answer so"). A
--- reply is two numbers (document 01, "What a call turns down"): the refusal's, 0 where nothing is refused, and the kept
+-- reply is two numbers (SPECIFICATION, "What a call refuses"): the refusal's, 0 where nothing is refused, and the kept
 -- count or the record that the refusal names. They tell it apart from every other reply. Assumes nothing.
 use mathlib.Core.Path.{_≡_, refl, sym, _∙_, ap}
 use mathlib.Core.Logic.{_↔_}

@@ -1,5 +1,5 @@
--- What a reply of Compare gives, and what "strictly" asks of replies, as tests (document 01, "What demand 3 says, word by
--- word"). No test holds of a refusal.
+-- What a reply of Compare gives, and what "strictly" asks of replies, as tests (SPECIFICATION, "The third promise, word
+-- by word"). No test holds of a refusal.
 use mathlib.Core.Bool.{Bool, not, _&&_, _||_}
 use Prim.Native.Nat.{ℕ}
 use lib.Dec.{ltb, eqb}

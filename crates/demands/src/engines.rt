@@ -1,7 +1,7 @@
 // What the signed sentences say of both engines, of the calls themselves (`theorems` says it of the definitions). Each
 // function says whether the sentence holds of its arguments: whatever they are, what it returns and leaves in each buffer is
-// an equation with definitions over Query's replies and buffers. That the sentence holds of whatever document 01 claims it is
-// the rest of its contract. Both are proved from the contracts of the calls alone.
+// an equation with definitions over Query's replies and buffers. That the sentence holds of whatever the specification claims
+// it is the rest of its contract. Both are proved from the contracts of the calls alone.
 use crate::agreement::same::same_entries;
 use crate::agreement::same::same_reply;
 use crate::agreement::witnesses::reply_witnessed;

@@ -1,5 +1,5 @@
-// The signed sentences (document 00), said of the calls themselves by functions that call them and are proved from their
-// contracts alone. The theorems about the definitions stand in the crate `theorems`.
+// The signed sentences (SPECIFICATION, "The promises"), said of the calls themselves by functions that call them and are
+// proved from their contracts alone. The theorems about the definitions stand in the crate `theorems`.
 mod agreement;
 pub mod engines;
 pub mod strictly;

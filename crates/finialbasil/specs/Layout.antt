@@ -1,4 +1,4 @@
--- How a reply is laid out for C (bindings/c/finialbasil.h): what document 01 lists for it, field by field.
+-- How a reply is laid out for C (bindings/c/finialbasil.h): what the specification lists for it, field by field.
 use Prim.Native.Nat.{ℕ}
 use mathlib.Core.List.{[], _∷_}
 use lib.ListN.{getD}

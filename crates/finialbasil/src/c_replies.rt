@@ -1,5 +1,5 @@
 // The replies as C has them (bindings/c/finialbasil.h): a struct for each, and one converter for each call. A reply holds what
-// document 01 lists for it.
+// the specification lists for it.
 ghost use mathlib.Core.Path.{_≡_};
 ghost use Rattle.model.specs.Replies.{listed, listedCheck, outcomeNumber, listedCompare, markNumber, listedPerfect, listedQuery};
 ghost use Rattle.finialbasil.specs.Layout.{placeNumber, checkFields, replyFields, givenFields};

@@ -1,4 +1,4 @@
--- The terms of an accepted table (document 01, "The table", "What a call turns down") are sound and over the columns;
+-- The terms of an accepted table (SPECIFICATION, "The table", "What a call refuses") are sound and over the columns;
 -- what else acceptance says goes by their kinds. Assumes nothing.
 use mathlib.Core.Path.{_≡_, refl, ap}
 use mathlib.Core.Logic.{_⊎_, inl, inr}

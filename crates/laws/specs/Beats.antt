@@ -1,5 +1,5 @@
--- Which of two rows of a run beats the other, by the outcome of their comparison (document 01, "Compare" and "Query").
--- Assumes nothing.
+-- Which of two rows of a run beats the other, by the outcome of their comparison (SPECIFICATION, "Compare" and
+-- "Query"). Assumes nothing.
 use mathlib.Core.Path.{_≡_, refl, _∙_, ap}
 use mathlib.Core.Bool.{Bool, true, _&&_}
 use mathlib.Core.List.{List}

@@ -1,4 +1,4 @@
--- A chain (document 01, "The calls") ranks any two rows that differ in its columns. Assumes nothing.
+-- A chain (SPECIFICATION, "Chains") ranks any two rows that differ in its columns. Assumes nothing.
 use mathlib.Core.Path.{_≡_, refl, _∙_}
 use mathlib.Core.Logic.{_⊎_, inl, inr, ⊎-elim}
 use mathlib.Core.Bool.{true, false≢true}

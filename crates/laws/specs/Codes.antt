@@ -1,6 +1,6 @@
--- Outcomes as codes (document 01, "Compare"): same 0, first better 1, second better 2, unranked 3. PARETO's code is the
--- bitwise or of its parts' codes, BOTH's too, PRIOR's is the left's unless that is 0, and DUAL changes 1 and 2. Assumes
--- nothing.
+-- Outcomes as codes (SPECIFICATION, "Compare"): same 0, first better 1, second better 2, unranked 3. PARETO's code is
+-- the bitwise or of its parts' codes, BOTH's too, PRIOR's is the left's unless that is 0, and DUAL changes 1 and 2.
+-- Assumes nothing.
 use mathlib.Core.Path.{_≡_, refl, sym, _∙_, ap}
 use mathlib.Core.Bool.{true, cond}
 use Prim.Native.Nat.{ℕ, _<_}

@@ -1,4 +1,4 @@
--- The report's decompositions (document 000, section 4.2), as theorems about `better`: Proposition 4, "discrimination" of
+-- The report's decompositions (section 4.2), as theorems about `better`: Proposition 4, "discrimination" of
 -- PRIOR; Proposition 5, "non-discrimination" of PARETO; Proposition 6. Assumes nothing.
 use mathlib.Core.Path.{_≡_, refl, sym, _∙_}
 use mathlib.Core.Bool.{true, _||_, or-false}
@@ -27,8 +27,8 @@ prior-shared p1 p2 over s w =
       same = λ x y. rw (equal-columns p1 p2 over x y, equal-none p2 s w x y) (or-false (better p1 x y));
     }
 
--- 4 (b): P1&P2 ≡ P1 + (A1↔&P2). 01 departs here: the report's + is the disjoint union, and the two relations can share
--- values, so this is their plain union, for whatever columns P1 and P2 read.
+-- 4 (b): P1&P2 ≡ P1 + (A1↔&P2). The specification departs here: the report's + is the disjoint union, and the two
+-- relations can share values, so this is their plain union, for whatever columns P1 and P2 read.
 pub prior-union : (p1 p2 a : Term) → Antichain a → columnsOf a ≡ columnsOf p1 → (x y : Row)
     → better (pair Prior p1 p2) x y ≡ (better p1 x y || better (pair Prior a p2) x y)
 unfolding better

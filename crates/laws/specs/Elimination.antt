@@ -1,5 +1,5 @@
--- What elimination has found (document 01, "Query"), over any relation: `beats j i` reads "row j is in row i's set and
--- better". The list `gone` has 0 for a row that is not gone.
+-- What elimination has found (SPECIFICATION, "Query"), over any relation: `beats j i` reads "row j is in row i's set
+-- and better". The list `gone` has 0 for a row that is not gone.
 use mathlib.Core.Path.{_≡_}
 use mathlib.Core.Bool.{Bool, true, false}
 use mathlib.Core.List.{List}

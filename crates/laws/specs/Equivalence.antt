@@ -1,6 +1,7 @@
--- The report's equivalence (document 000, Definition 13): P1 ≡ P2 where they have the same columns and are better at the
+-- The report's equivalence (Definition 13): P1 ≡ P2 where they have the same columns and are better at the
 -- same rows; and its Proposition 2, commutative and associative laws, as theorems about `better`. Assumes nothing.
--- Left out, since 01 has no such terms: 2 (e) disjoint union and 2 (f) linear sum. The text that we hold shows no 2 (a).
+-- Left out, since the specification has no such terms: 2 (e) disjoint union and 2 (f) linear sum. The text that we hold
+-- shows no 2 (a).
 use mathlib.Core.Path.{_≡_, refl}
 use mathlib.Core.Bool.{Bool, true, false, _&&_, _||_, and-false, and-comm, and-assoc, or-comm}
 use mathlib.Core.List.{List}

@@ -1,4 +1,4 @@
--- What a comparison gives (document 01, "Compare"), and how a compound's outcome follows from its parts' outcomes.
+-- What a comparison gives (SPECIFICATION, "Compare"), and how a compound's outcome follows from its parts' outcomes.
 -- Assumes nothing.
 use mathlib.Core.Path.{_≡_, refl, sym, _∙_}
 use mathlib.Core.Bool.{Bool, true, false, cond, _&&_}

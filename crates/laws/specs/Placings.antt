@@ -1,5 +1,6 @@
--- The two placings of a compound and ranking equally (document 01, "What demand 3 says, word by word"): accepted as the
--- table is, with the same reply; record k's term joins the same parts, and no term below it changes. Assumes nothing.
+-- The two placings of a compound and ranking equally (SPECIFICATION, "The third promise, word by word"): accepted as
+-- the table is, with the same reply; record k's term joins the same parts, and no term below it changes. Assumes
+-- nothing.
 use mathlib.Core.Path.{_≡_, refl, sym, _∙_, ap}
 use mathlib.Core.Logic.{_⊎_, inl, inr, ⊎-elim}
 use mathlib.Core.Bool.{true, false}

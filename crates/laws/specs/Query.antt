@@ -1,5 +1,5 @@
--- What a query gives and writes (document 01, "Query"), and the placings of two parts in the words of the third signed
--- sentence (document 01, "What demand 3 says"). Assumes nothing.
+-- What a query gives and writes (SPECIFICATION, "Query"), and the placings of two parts in the words of the third
+-- signed sentence (SPECIFICATION, "The third promise, word by word"). Assumes nothing.
 use mathlib.Core.Path.{_≡_, _∙_, sym, ap}
 use mathlib.Core.Bool.{false, not, _&&_, _||_}
 use mathlib.Core.List.{List}

@@ -1,4 +1,4 @@
--- A record's number and fields read back from what it stands for (document 01, "The table"). Assumes nothing.
+-- A record's number and fields read back from what it stands for (SPECIFICATION, "The table"). Assumes nothing.
 use mathlib.Core.Path.{_≡_, refl, sym, _∙_, ap}
 use mathlib.Core.Bool.{Bool, true, false, cond, true≢false}
 use mathlib.Core.List.{List}

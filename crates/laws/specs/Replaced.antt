@@ -1,5 +1,5 @@
--- A table in which a compound of two parts was given another kind, and its parts as they stood or exchanged (document
--- 01, "What demand 3 says, word by word"): what every record keeps. Assumes nothing.
+-- A table in which a compound of two parts was given another kind, and its parts as they stood or exchanged
+-- (SPECIFICATION, "The third promise, word by word"): what every record keeps. Assumes nothing.
 use mathlib.Core.Path.{_≡_, refl, sym, _∙_, ap}
 use mathlib.Core.Logic.{_⊎_, ⊎-elim, _≢_}
 use mathlib.Core.Bool.{Bool, true, false, cond, _||_}

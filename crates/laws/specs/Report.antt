@@ -1,6 +1,6 @@
--- The report's Proposition 3, further laws for preference terms (document 000, section 4.1), as theorems about `better`.
+-- The report's Proposition 3, further laws for preference terms (section 4.1), as theorems about `better`.
 -- A↔ is any term over the columns A under which nothing is better. Assumes nothing.
--- Left out, since 01 has no linear sum: 3 (c). The text that we hold shows no 3 (h).
+-- Left out, since the specification has no linear sum: 3 (c). The text that we hold shows no 3 (h).
 use mathlib.Core.Path.{_≡_, refl, sym, _∙_}
 use mathlib.Core.Bool.{Bool, true, false, not, _&&_, _||_, true≢false, and-false, or-false, and-self, and-comm}
 use mathlib.Core.List.{List}

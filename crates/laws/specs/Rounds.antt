@@ -1,5 +1,5 @@
--- The laws of elimination by rounds (document 01, "Query"), over any relation: how a round begins, goes on and ends, and
--- that the rows which are not gone after all rounds are the kept ones. Assumes nothing.
+-- The laws of elimination by rounds (SPECIFICATION, "Query"), over any relation: how a round begins, goes on and ends,
+-- and that the rows which are not gone after all rounds are the kept ones. Assumes nothing.
 use mathlib.Core.Path.{_≡_, sym, _∙_}
 use mathlib.Core.Bool.{Bool, true, false, false≢true}
 use mathlib.Core.Logic.{_⊎_, ⊎-elim}

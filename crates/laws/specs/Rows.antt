@@ -1,5 +1,5 @@
--- The rows that a term keeps within the groups of a group byte (document 01, "Query" and "What demand 3 says").
--- Assumes nothing.
+-- The rows that a term keeps within the groups of a group byte (SPECIFICATION, "Query" and "The third promise, word by
+-- word"). Assumes nothing.
 use mathlib.Core.Path.{_≡_, refl}
 use mathlib.Core.Bool.{Bool, true, false, _&&_, _||_}
 use mathlib.Core.List.{List}

@@ -1,5 +1,6 @@
 -- The report's decompositions of a query (000, section 5), for the rows of a set (Proposition 11 is `chain-prior` of
--- Cascade). As document 01 departs from Definition 17, only rows of the set count as common betters. Assumes nothing.
+-- Cascade). As the specification departs from Definition 17, only rows of the set count as common betters. Assumes
+-- nothing.
 use mathlib.Core.Path.{_≡_, sym, _∙_, ap}
 use mathlib.Core.Bool.{Bool, _&&_, _||_, false≢true, and-or-distrib-left}
 use mathlib.Core.List.{List}
@@ -55,8 +56,8 @@ module _ (columns : ℕ) (rows : List ℤ) where
   ungrouped : (p1 p2 : Term) (i : ℕ) → selectedBy p2 (bitOr 0 (columnsOf p1)) i ≡ selectedBy p2 (columnsOf p1) i
   ungrouped p1 p2 i = ap (λ (mask : ℕ). selectedBy p2 mask i) (or-zero-l (columnsOf p1))
 
-  -- Proposition 10: σ[P1 & P2](R) = σ[P1](R) ∩ σ[P2 groupby A1](R). The columns need not be disjoint, as PRIOR is 01's
-  -- plain union.
+  -- Proposition 10: σ[P1 & P2](R) = σ[P1](R) ∩ σ[P2 groupby A1](R). The columns need not be disjoint, as PRIOR is the
+  -- specification's plain union.
   pub selected-prior : (p1 p2 : Term) (i : ℕ)
       → selected (pair Prior p1 p2) i ≡ (selected p1 i && selectedBy p2 (columnsOf p1) i)
   selected-prior p1 p2 i =

@@ -1,4 +1,4 @@
--- Sound terms: what the check makes sure of by CLASH, LOOP, APART and COLUMN (document 01, "What a call turns down"), said
+-- Sound terms: what the check makes sure of by CLASH, LOOP, APART and COLUMN (SPECIFICATION, "What a call refuses"), said
 -- of the tree of terms. Assumes nothing.
 use mathlib.Core.Path.{_≡_}
 use mathlib.Core.Bool.{Bool, true, not, _&&_}

@@ -1,4 +1,4 @@
--- What a compound reads of its parts, and that only the term's columns matter (document 01, "Better, term by term").
+-- What a compound reads of its parts, and that only the term's columns matter (SPECIFICATION, "When a row is better").
 -- Assumes nothing.
 use mathlib.Core.Path.{_≡_, refl, sym, _∙_}
 use mathlib.Core.Bool.{Bool, true, _&&_, _||_}

@@ -1,5 +1,5 @@
 -- Where Query takes a record of two parts, it takes the two placings, ranking equally, and each part's own record, and the
--- rows that they keep are as the third signed sentence says (document 01, "What demand 3 says, word by word"). Assumes
+-- rows that they keep are as the third signed sentence says (SPECIFICATION, "The third promise, word by word"). Assumes
 -- nothing.
 use mathlib.Core.Path.{_≡_}
 use mathlib.Core.Bool.{true, not, _&&_, _||_}

@@ -1,4 +1,5 @@
--- When one row is better than another (document 01, "Better, term by term"). `better t x y` reads "y is better than x".
+-- When one row is better than another (SPECIFICATION, "When a row is better"). `better t x y` reads "y is better than
+-- x".
 use mathlib.Core.Path.{_≡_}
 use mathlib.Core.List.{List·Memᴰ}
 use Rattle.model.specs.Words.{Bool, true, false, not, cond, _&&_, _||_, ℕ, _<_, List, [], _∷_, ltb, eqb, ℤ, pos, natAbs, _-ℤ_, getD, ltZ, Value, BaseTerm, Lowest, Highest, Around, Between, Pos, Neg}
@@ -91,8 +92,8 @@ unfoldable pub equal : Term → Row → Row → Bool
 equal t x y = equalIn (columnsOf t) x y
 
 -- PARETO: better in one part and, in the other, better or equal in all that part's columns.
--- PRIOR: better in the left; or equal in all columns of the left and better in the right. Here 01 departs from the
--- report, whose Proposition 4(b) writes a disjoint union: this is the plain union of the two.
+-- PRIOR: better in the left; or equal in all columns of the left and better in the right. Here the specification
+-- departs from the report, whose Proposition 4(b) writes a disjoint union: this is the plain union of the two.
 -- BOTH: better in both parts. DUAL: x and y change places.
 unfoldable pub better : Term → Row → Row → Bool
 better (base column b values) x y = betterValue b values (cell x column) (cell y column)

@@ -1,4 +1,4 @@
--- Chains (document 01, "The calls"), and the words of the third signed sentence ("What demand 3 says, word by word").
+-- Chains (SPECIFICATION, "Chains"), and the words of the third signed sentence ("The third promise, word by word").
 use Rattle.model.specs.Words.{Bool, true, false, _&&_, ℕ, suc, _+_, _*_, List, eqb, ℤ, getD, set, Lowest, Highest, Around, Between, Pos, Neg, PosNeg, PosPos, Explicit, Any, Pareto, Prior, Both}
 use Rattle.model.specs.Record.{pAt, qAt}
 use Rattle.model.specs.Term.{Term, termAt, base, pair, dual}
@@ -6,7 +6,7 @@ use Rattle.model.specs.Better.{equal}
 use Rattle.model.specs.Check.{byVerdict, tableVerdict}
 use Rattle.model.specs.Query.{kept, rowCount, rowAt, beatsIn, queryBuffer}
 
--- Chain (01's term): a term is one if it is LOWEST, HIGHEST, DUAL of a chain, or PRIOR of two chains.
+-- Chain (the specification's term): a term is one if it is LOWEST, HIGHEST, DUAL of a chain, or PRIOR of two chains.
 unfoldable pub isChain : Term → Bool
 isChain (base column Lowest values) = true
 isChain (base column Highest values) = true
@@ -23,7 +23,7 @@ isChain (pair Prior l r) = isChain l && isChain r
 isChain (pair Both l r) = false
 isChain (dual t) = isChain t
 
--- Accepted (01's term): a table is accepted when Check with the column count refuses nothing.
+-- Accepted (the specification's term): a table is accepted when Check with the column count refuses nothing.
 unfoldable pub accepted : List ℕ → ℕ → Bool
 accepted table columns = byVerdict (tableVerdict table columns) (λ why. false) true
 
@@ -31,7 +31,8 @@ accepted table columns = byVerdict (tableVerdict table columns) (λ why. false) 
 unfoldable pub rewritten : List ℕ → ℕ → ℕ → ℕ → ℕ → List ℕ
 rewritten table k kind p q = set (set (set table (12 * k) kind) (12 * k + 1) p) (12 * k + 2) q
 
--- Placing (01's term): its two placings are the table with 17 as that record's kind, p and q once as they stand
+-- Placing (the specification's term): its two placings are the table with 17 as that record's kind, p and q once as
+-- they stand
 unfoldable pub leftFirst : List ℕ → ℕ → List ℕ
 leftFirst table k = rewritten table k 17 (pAt table k) (qAt table k)
 
@@ -39,11 +40,11 @@ leftFirst table k = rewritten table k 17 (pAt table k) (qAt table k)
 unfoldable pub rightFirst : List ℕ → ℕ → List ℕ
 rightFirst table k = rewritten table k 17 (qAt table k) (pAt table k)
 
--- Ranking equally (01's term) is the table with 16 there.
+-- Ranking equally (the specification's term) is the table with 16 there.
 unfoldable pub equally : List ℕ → ℕ → List ℕ
 equally table k = rewritten table k 16 (pAt table k) (qAt table k)
 
--- Keeps (01's term): Query gives row i the entry i.
+-- Keeps (the specification's term): Query gives row i the entry i.
 unfoldable pub keeps : List ℕ → ℕ → List ℤ → ℕ → ℕ → List ℕ → ℕ → Bool
 keeps table columns rows term group before i =
     eqb (getD (queryBuffer table columns rows term group before) i (suc i)) i

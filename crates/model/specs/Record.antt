@@ -1,4 +1,5 @@
--- A table's records (document 01, "The table"): the fields, what they stand for, and which values belong to which term.
+-- A table's records (SPECIFICATION, "The table"): the fields, what they stand for, and which values belong to which
+-- term.
 use Rattle.model.specs.Words.{Bool, true, false, cond, ℕ, zero, suc, _+_, _*_, _/_, List, [], _∷_, _++_, eqb, ℤ, length, Value, Record, Lowest, Highest, Around, Between, Pos, Neg, PosNeg, PosPos}
 use Rattle.model.specs.Words.{Explicit, Any, Pareto, Prior, Both, Joined, Dual, Base, Compound, Unknown}
 use Rattle.model.specs.Bytes.{byteAt, wordAt, signed}

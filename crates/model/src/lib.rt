@@ -1,4 +1,4 @@
-// The vocabulary of document 01: its limits, a table's records as they are decoded, and what the calls reply.
+// The vocabulary of the specification: its limits, a table's records as they are decoded, and what the calls reply.
 // What each of them means stands in specs/, in the order that specs/Lib.antt gives.
 
 pub mod cases;
@@ -66,7 +66,7 @@ pub enum Record {
 
 // ---- refusals
 
-// What a call turns down, in the order of document 01's numbers, with the record where the document gives a place.
+// What a call refuses, in the order of the specification's numbers, with the record where it gives a place.
 pub enum Refusal {
     Width,
     Length,

@@ -1,4 +1,4 @@
--- What the reply says of the row, in document 01's own words. Assumes nothing.
+-- What the reply says of the row, in the specification's own words. Assumes nothing.
 use mathlib.Core.Path.{_≡_, refl, sym, _∙_, ap}
 use mathlib.Core.Bool.{Bool, true, false, false≢true}
 use mathlib.Core.List.{List}

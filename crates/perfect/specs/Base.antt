@@ -1,4 +1,4 @@
--- The mark of a base term (document 01, "Perfect"), and what it rests on.
+-- The mark of a base term (SPECIFICATION, "Perfect"), and what it rests on.
 use mathlib.Core.Bool.{Bool, true, false}
 use mathlib.Core.List.{List}
 use Prim.Native.Nat.{ℕ}

@@ -1,4 +1,4 @@
--- The marks of a table's terms, record by record (document 01, "Perfect").
+-- The marks of a table's terms, record by record (SPECIFICATION, "Perfect").
 use mathlib.Core.Path.{_≡_}
 use mathlib.Core.Bool.{Bool, true, false, _&&_}
 use mathlib.Core.List.{List}

@@ -1,4 +1,4 @@
--- What a reply of Perfect says (document 01, "Perfect").
+-- What a reply of Perfect says (SPECIFICATION, "Perfect").
 use mathlib.Core.Path.{_≡_}
 use mathlib.Core.Bool.{false}
 use mathlib.Core.List.{List}

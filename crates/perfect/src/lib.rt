@@ -1,4 +1,4 @@
-// The perfect-match mark of a row (document 01, "Perfect").
+// The perfect-match mark of a row (SPECIFICATION, "Perfect").
 mod extremes;
 mod marks;
 
@@ -12,7 +12,7 @@ ghost use Rattle.model.specs.Perfect.{markOf, perfectReply};
 ghost use Rattle.perfect.specs.Says.{Says};
 
 // Perfect: whether the row is perfect for the term; or the first refusal of 1 to 16 with its place. It takes any bytes, any
-// column count, any number for a term and any row. The mark says what document 01 says of all 32-bit values.
+// column count, any number for a term and any row. The mark says what the specification says of all 32-bit values.
 pub fn perfect(table: &[u8], columns: usize, term: usize, row: &[i32]) -> PerfectReply
     ensures { λ r. ⌜ (r ≡ perfectReply (now (table .entry)) columns term (now (row .entry)))
         × Says (now (table .entry)) term (now (row .entry)) r ⌝ }

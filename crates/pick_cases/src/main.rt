@@ -1,5 +1,5 @@
 // Runs pick's code on each folder of data/, in the order of their names. The file stdout has the answers, written by hand
-// from document 01; `tests/pick/run` holds the program `pick` to the same answers.
+// from the specification; `tests/pick/run` holds the program `pick` to the same answers.
 use pick_files::run;
 
 fn main() {
@@ -23,12 +23,12 @@ fn kept() {
     run(b"ok_16_values/prefs.bin", b"ok_16_values/rows.bin");
     // PARETO of LOWEST of each column. Row 1 has the lowest number in column 7, row 2 is lower in column 0.
     run(b"ok_8_columns/prefs.bin", b"ok_8_columns/rows.bin");
-    // Document 01's AROUND 2147483647 over -2147483648 and 0.
+    // The specification's AROUND 2147483647 over -2147483648 and 0.
     run(
         b"ok_around_the_end/prefs.bin",
         b"ok_around_the_end/rows.bin",
     );
-    // Document 01's EXPLICIT edges (4,3) (4,2) (3,1) over 3 2 4 6.
+    // The specification's EXPLICIT edges (4,3) (4,2) (3,1) over 3 2 4 6.
     run(b"ok_explicit/prefs.bin", b"ok_explicit/rows.bin");
 }
 
@@ -45,11 +45,11 @@ fn kept_too() {
     run(b"ok_missing_rows/prefs.bin", b"ok_missing_rows/rows.bin");
     // T1 and a file of no bytes.
     run(b"ok_no_rows/prefs.bin", b"ok_no_rows/rows.bin");
-    // Document 01's PARETO of POS {2, 3} and NEG {1, 2, 4, 6} over 1 to 6.
+    // The specification's PARETO of POS {2, 3} and NEG {1, 2, 4, 6} over 1 to 6.
     run(b"ok_one_column/prefs.bin", b"ok_one_column/rows.bin");
-    // Document 01's AROUND PRIOR LOWEST over V, with other numbers in columns 3 to 7, which nothing reads.
+    // The specification's AROUND PRIOR LOWEST over V, with other numbers in columns 3 to 7, which nothing reads.
     run(b"ok_prior/prefs.bin", b"ok_prior/rows.bin");
-    // Document 01's PARETO of two LOWESTs over (1,5) (5,1) (3,3).
+    // The specification's PARETO of two LOWESTs over (1,5) (5,1) (3,3).
     run(b"ok_three_kept/prefs.bin", b"ok_three_kept/rows.bin");
 }
 
@@ -95,7 +95,7 @@ fn records() {
     run(b"refused_03_kind/prefs.bin", b"refused_03_kind/rows.bin");
     // Kind 255 in record 127.
     run(b"refused_03_last/prefs.bin", b"refused_03_last/rows.bin");
-    // Document 01's AROUND with column 8 and v = 1.
+    // The specification's AROUND with column 8 and v = 1.
     run(
         b"refused_04_filler/prefs.bin",
         b"refused_04_filler/rows.bin",

@@ -1,5 +1,5 @@
--- The text of an accepted table and a file of rows that is not refused, by the reply of Query (document 01, "The pick
--- program"). Assumes nothing.
+-- The text of an accepted table and a file of rows that is not refused, by the reply of Query (SPECIFICATION, "The
+-- program pick"). Assumes nothing.
 use mathlib.Core.Path.{_≡_, refl, ap, _∙_}
 use mathlib.Core.Bool.{true, false, not}
 use mathlib.Core.List.{List, _++_}

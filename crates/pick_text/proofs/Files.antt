@@ -1,4 +1,4 @@
--- A file longer than is taken is refused by its length alone (document 01, "The pick program"). Assumes nothing.
+-- A file longer than is taken is refused by its length alone (SPECIFICATION, "The program pick"). Assumes nothing.
 use mathlib.Core.Path.{_≡_, refl, sym, ap, _∙_}
 use mathlib.Core.Logic.{⊎-elim}
 use mathlib.Core.Bool.{true, not}

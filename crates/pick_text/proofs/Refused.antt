@@ -1,4 +1,4 @@
--- The text where the table or the file of rows is refused (document 01, "The pick program"). Assumes nothing.
+-- The text where the table or the file of rows is refused (SPECIFICATION, "The program pick"). Assumes nothing.
 use mathlib.Core.Path.{_≡_}
 use mathlib.Core.Bool.{true}
 use mathlib.Core.List.{List}

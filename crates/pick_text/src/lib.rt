@@ -1,4 +1,4 @@
-// All that `pick` prints, as a function of the bytes of its two files (document 01, "The pick program").
+// All that `pick` prints, as a function of the bytes of its two files (SPECIFICATION, "The program pick").
 mod answer_text;
 mod fields;
 mod lines;

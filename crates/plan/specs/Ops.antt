@@ -1,4 +1,4 @@
--- What each record does, in numbers (document 01, "Better, term by term").
+-- What each record does, in numbers (SPECIFICATION, "When a row is better").
 use mathlib.Core.Path.{_≡_}
 use mathlib.Core.List.{List}
 use Prim.Native.Nat.{ℕ, _+_, _*_, _≤_}

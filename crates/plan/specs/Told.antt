@@ -1,6 +1,7 @@
--- What the outcome of a record beneath the asked term tells of the asked term's (document 01, "Better, term by term"; codes as
--- in laws/specs/Codes.antt). Each record has a mask: 0 tells nothing; 1: the asked term's code has the bits of the record's;
--- 2: it has them with first and second better exchanged; 5 and 6: the same, and where the record's is not same, no others.
+-- What the outcome of a record beneath the asked term tells of the asked term's (SPECIFICATION, "When a row is better"; codes
+-- as in laws/specs/Codes.antt). Each record has a mask: 0 tells nothing; 1: the asked term's code has the bits of the
+-- record's; 2: it has them with first and second better exchanged; 5 and 6: the same, and where the record's is not same, no
+-- others.
 use mathlib.Core.Bool.{Bool, cond, _&&_, _||_}
 use Prim.Native.Nat.{ℕ, _+_, _%_}
 use lib.Bits.{bitOr}

@@ -1,4 +1,4 @@
-// The rows that a term keeps (document 01, "Query"), by two engines behind one contract.
+// The rows that a term keeps (SPECIFICATION, "Query"), by two engines behind one contract.
 use model::QueryReply;
 use model::Verdict;
 use table::vetted::asked::query::query_verdict;

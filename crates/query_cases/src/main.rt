@@ -1,5 +1,5 @@
 // Runs Query by both engines on the cases of the file stdin, a line for each. The file stdout has the answers, written by
-// hand from document 01. The head of a case is the column count and the term's record number, and, where they are not
+// hand from the specification. The head of a case is the column count and the term's record number, and, where they are not
 // what is said here, the group byte (`group`, else 0; several with `to`, which must all give one answer), how many entries
 // the buffer has (`buffer`, else two more than rows) and the table's length in bytes (`table`, else that of the records).
 // The rows follow (`query_lines` of `case_lines`), then the records. An answer is the kept count or the refusal, and the whole buffer.

@@ -1,4 +1,4 @@
--- What the values of a term put for a number is its rank (document 01, "Better, term by term"). Assumes nothing.
+-- What the values of a term put for a number is its rank (SPECIFICATION, "When a row is better"). Assumes nothing.
 use mathlib.Core.Path.{_≡_, refl, sym, _∙_}
 use mathlib.Core.Logic.{_⊎_, inl, inr, ⊎-elim}
 use mathlib.Core.Bool.{Bool, true, false, cond, true≢false}

@@ -1,5 +1,5 @@
--- The code of two values by their ranks, for every base term but EXPLICIT (document 01, "Better, term by term"; codes as in
--- laws/specs/Codes.antt). Assumes nothing.
+-- The code of two values by their ranks, for every base term but EXPLICIT (SPECIFICATION, "When a row is better"; codes as
+-- in laws/specs/Codes.antt). Assumes nothing.
 use mathlib.Core.Path.{_≡_, refl, sym, _∙_, ap₂}
 use mathlib.Core.Bool.{Bool, true, false, cond, true≢false}
 use mathlib.Core.List.{List}

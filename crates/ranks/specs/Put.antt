@@ -1,5 +1,5 @@
--- What a value record puts for the cells that it names (document 01, "Better, term by term"). Cell j's entry is j places after
--- the first.
+-- What a value record puts for the cells that it names (SPECIFICATION, "When a row is better"). Cell j's entry is j places
+-- after the first.
 use mathlib.Core.Bool.{Bool, cond, _&&_}
 use mathlib.Core.List.{List}
 use Prim.Native.Nat.{ℕ, zero, suc, _+_, _*_, _-_}

@@ -1,5 +1,5 @@
-// A table's records (document 01, "The table"): their fields, and what they stand for. Past the table's end every byte
-// reads as 0, so that each function takes any record number.
+// A table's records (SPECIFICATION, "The table"): their fields, and what they stand for. Past the table's end every
+// byte reads as 0, so that each function takes any record number.
 use model::BaseTerm;
 use model::CompoundTerm;
 use model::Pair;

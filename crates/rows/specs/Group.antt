@@ -1,4 +1,4 @@
--- Two rows are in one group where they differ in no column of it (document 01, "Query"). Assumes nothing.
+-- Two rows are in one group where they differ in no column of it (SPECIFICATION, "Query"). Assumes nothing.
 use mathlib.Core.Path.{_≡_, refl, sym, ap, _∙_}
 use mathlib.Core.Bool.{Bool, true, false, not, _&&_, and-false, false≢true}
 use mathlib.Core.Logic.{⊎-elim}

@@ -1,4 +1,4 @@
--- Keys of rows by which rows of different groups are told apart early (document 01, "Query"). Assumes nothing.
+-- Keys of rows by which rows of different groups are told apart early (SPECIFICATION, "Query"). Assumes nothing.
 use mathlib.Core.Path.{_≡_, sym, ap, _∙_}
 use mathlib.Core.Bool.{true, not, false≢true}
 use mathlib.Core.Logic.{⊎-elim}

@@ -1,4 +1,4 @@
--- What an engine is asked, and what it does (document 01, "Query").
+-- What an engine is asked, and what it does (SPECIFICATION, "Query").
 use mathlib.Core.Path.{_≡_}
 use mathlib.Core.List.{List}
 use Prim.Native.Nat.{ℕ, _+_, _*_, _≤_}

@@ -1,4 +1,4 @@
--- What holds of a call that refuses nothing (document 01, "What a call turns down"). Assumes nothing.
+-- What holds of a call that refuses nothing (SPECIFICATION, "What a call refuses"). Assumes nothing.
 use mathlib.Core.Path.{_≡_, sym, _∙_}
 use mathlib.Core.Bool.{false, not}
 use mathlib.Core.List.{List}

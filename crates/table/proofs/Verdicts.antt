@@ -1,4 +1,4 @@
--- Which verdict comes first (document 01, "What a call turns down"). Assumes nothing.
+-- Which verdict comes first (SPECIFICATION, "What a call refuses"). Assumes nothing.
 use mathlib.Core.Path.{_≡_, refl}
 use mathlib.Core.Bool.{Bool}
 use mathlib.Core.List.{List}

@@ -1,4 +1,4 @@
-// 13 APART (document 01), of a record that passed the rules before it.
+// 13 APART (SPECIFICATION, "What a call refuses"), of a record that passed the rules before it.
 use records::record::kind_at;
 use records::record::p_at;
 use records::record::q_at;

@@ -1,4 +1,4 @@
-// The rules of one record in two chains, 3 to 8 and 9 to 11 (document 01, "What a call turns down"). The first takes what the
+// The rules of one record in two chains, 3 to 8 and 9 to 11 (SPECIFICATION, "What a call refuses"). The first takes what the
 // check carries up to the record; the second asks that the first has passed.
 use crate::filler::fails_filler;
 use crate::rules::fails_column;

@@ -1,4 +1,5 @@
-// 4 FILLER (document 01): each kind has its own list of fields that may be filled; every other field is zero.
+// 4 FILLER (SPECIFICATION, "What a call refuses"): each kind has its own list of fields that may be filled; every other
+// field is zero.
 use records::record::kind_at;
 use records::record::p_at;
 use records::record::q_at;

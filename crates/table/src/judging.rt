@@ -1,4 +1,4 @@
-// One record judged for 3 to 13 in number order (document 01, "What a call turns down"). It rests on the records before it,
+// One record judged for 3 to 13 in number order (SPECIFICATION, "What a call refuses"). It rests on the records before it,
 // which the check has judged.
 use crate::apart::fails_apart;
 use crate::chains::judge_fields;

@@ -1,4 +1,4 @@
-// The table check of document 01: the bytes of a table become what the table is, or a refusal with its place.
+// The table check of the specification: the bytes of a table become what the table is, or a refusal with its place.
 mod apart;
 mod chains;
 mod filler;

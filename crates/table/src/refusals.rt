@@ -1,4 +1,4 @@
-// A refusal's number and place, as document 01 lists them ("What a call turns down").
+// A refusal's number and place, as the specification lists them ("What a call refuses").
 use model::Place;
 use model::Refusal;
 ghost use mathlib.Core.Path.{_≡_};

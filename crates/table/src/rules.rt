@@ -1,7 +1,7 @@
-// The refusals of document 01, one function each: 1 to 8 and 12, save FILLER, which stands in `filler`. PART, REUSED and STRAY
-// take what the check carries up to the record. What kind and p alone say is told without the record's numbers. CLASH and
-// LOOP, which look at a term's earlier values, stand in `runs`; CROWD in `chains`, APART in `apart`, the order of all of them
-// in `chains` and `judging`, and LOOSE in `verdict`.
+// The refusals of the specification, one function each: 1 to 8 and 12, save FILLER, which stands in `filler`. PART, REUSED and
+// STRAY take what the check carries up to the record. What kind and p alone say is told without the record's numbers. CLASH
+// and LOOP, which look at a term's earlier values, stand in `runs`; CROWD in `chains`, APART in `apart`, the order of all of
+// them in `chains` and `judging`, and LOOSE in `verdict`.
 use model::MOST_COLUMNS;
 use model::MOST_TABLE_BYTES;
 use model::RECORD_BYTES;

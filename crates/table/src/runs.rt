@@ -1,5 +1,5 @@
-// The refusals that look at the earlier values of a term (document 01), of value record k whose term is record j. Each
-// function asks what the check has shown before.
+// The refusals that look at the earlier values of a term (SPECIFICATION, "What a call refuses"), of value record k
+// whose term is record j. Each function asks what the check has shown before.
 use records::record::kind_at;
 use records::record::p_at;
 use records::record::u_at;

@@ -1,4 +1,5 @@
-// The table's own refusals in order (document 01): 1, 2, the records from 0 upward, 14; and what an accepted table is.
+// The table's own refusals in order (SPECIFICATION, "What a call refuses"): 1, 2, the records from 0 upward, 14; and
+// what an accepted table is.
 use crate::filler::must_be_zero;
 use crate::judging::judge_record;
 use crate::rules::fails_length;

@@ -1,5 +1,5 @@
 -- The ends of a run's edges by their places: a number at a place is in some edge, and a number at no place is in none
--- (document 01, EXPLICIT). Assumes nothing.
+-- (SPECIFICATION, "When a row is better": EXPLICIT). Assumes nothing.
 use mathlib.Core.Path.{_≡_, sym, _∙_}
 use mathlib.Core.Logic.{_⊎_, inl, inr, ⊎-elim}
 use mathlib.Core.Bool.{true, false, _||_}

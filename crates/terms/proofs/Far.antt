@@ -1,4 +1,4 @@
--- A distance as a difference (document 01, "Better, term by term"): the greater less the smaller. Assumes nothing.
+-- A distance as a difference (SPECIFICATION, "When a row is better"): the greater less the smaller. Assumes nothing.
 use mathlib.Core.Path.{_≡_, refl, sym, _∙_, ap}
 use mathlib.Core.Bool.{true, false, true≢false}
 use Prim.Native.Nat.{zero, suc}

@@ -1,4 +1,5 @@
--- The rows of what the edges of each EXPLICIT term reach, put into one array (document 01, EXPLICIT). Assumes nothing.
+-- The rows of what the edges of each EXPLICIT term reach, put into one array (SPECIFICATION, "When a row is better":
+-- EXPLICIT). Assumes nothing.
 use mathlib.Core.Path.{_≡_, refl, sym, _∙_, ap}
 use mathlib.Core.Logic.{⊎-elim}
 use mathlib.Core.Bool.{Bool, true, false≢true}

@@ -1,4 +1,4 @@
--- The values of a term end at the next term record, or with the table (document 01, "The table"). Assumes nothing.
+-- The values of a term end at the next term record, or with the table (SPECIFICATION, "The table"). Assumes nothing.
 use mathlib.Core.Path.{_≡_, refl, sym, _∙_}
 use mathlib.Core.Logic.{⊎-elim}
 use mathlib.Core.Bool.{Bool, true, false, cond, false≢true}

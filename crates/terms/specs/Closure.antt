@@ -1,4 +1,5 @@
--- Reachability as an array of arrays over the ends of the edges in a run of value records (document 01, EXPLICIT, LOOP).
+-- Reachability as an array of arrays over the ends of the edges in a run of value records (SPECIFICATION, "When a row
+-- is better": EXPLICIT).
 use mathlib.Core.Path.{_≡_}
 use mathlib.Core.Bool.{Bool, false, cond, _&&_, _||_}
 use mathlib.Core.List.{List, []}

@@ -1,4 +1,5 @@
--- The code of two values (document 01, "Compare"): same where they are equal, else by better both ways. Assumes nothing.
+-- The code of two values (SPECIFICATION, "Compare"): same where they are equal, else by better both ways. Assumes
+-- nothing.
 use mathlib.Core.Path.{_≡_, sym, _∙_}
 use mathlib.Core.Bool.{true, false}
 use mathlib.Core.List.{List}

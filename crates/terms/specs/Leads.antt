@@ -1,4 +1,5 @@
--- EXPLICIT by the places of two values among the ends of the edges (document 01, "Better, term by term"). Assumes nothing.
+-- EXPLICIT by the places of two values among the ends of the edges (SPECIFICATION, "When a row is better"). Assumes
+-- nothing.
 use mathlib.Core.Path.{_≡_, refl, sym, _∙_}
 use mathlib.Core.Bool.{Bool, true, false, cond, not, false≢true, and-false, or-false}
 use mathlib.Core.List.{List}

@@ -1,5 +1,5 @@
--- What is known of a base term and its values; EXPLICIT by places among the ends of the edges (document 01, "Better, term by
--- term").
+-- What is known of a base term and its values; EXPLICIT by places among the ends of the edges (SPECIFICATION, "When a row is
+-- better").
 use mathlib.Core.Path.{_≡_}
 use mathlib.Core.Bool.{Bool, true, false, cond}
 use mathlib.Core.List.{List}

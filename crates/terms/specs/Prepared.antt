@@ -1,4 +1,4 @@
--- What is prepared of an accepted table's values once, before rows are compared (document 01, "The table").
+-- What is prepared of an accepted table's values once, before rows are compared (SPECIFICATION, "The table").
 use mathlib.Core.Path.{_≡_}
 use mathlib.Core.Bool.{Bool, true, false, cond}
 use mathlib.Core.List.{List, []}

@@ -1,5 +1,5 @@
-// A compound's code from its parts' codes (document 01, "Better, term by term"; codes as in laws/specs/Codes.antt): PRIOR
-// and DUAL. PARETO and BOTH are the bitwise or.
+// A compound's code from its parts' codes (SPECIFICATION, "When a row is better"; codes as in laws/specs/Codes.antt):
+// PRIOR and DUAL. PARETO and BOTH are the bitwise or.
 ghost use mathlib.Core.Path.{_≡_};
 ghost use Rattle.laws.specs.Codes.{priorCode, turnedCode};
 

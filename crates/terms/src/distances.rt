@@ -1,4 +1,5 @@
-// Distances of AROUND and BETWEEN (document 01). They run to 4,294,967,295, so that numbers are widened before subtraction.
+// Distances of AROUND and BETWEEN (SPECIFICATION, "When a row is better"). They run to 4,294,967,295, so that numbers
+// are widened before subtraction.
 ghost use mathlib.Core.Path.{_≡_};
 ghost use lib.IntN.{pos};
 ghost use Rattle.model.specs.Better.{distance, distanceBetween};

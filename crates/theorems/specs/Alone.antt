@@ -1,5 +1,6 @@
--- A part alone (document 01, "What demand 3 says, word by word": "the part's own where a part alone keeps"): its record
--- answers alike in the table, in the two placings and in the table that ranks the parts equally. Assumes nothing.
+-- A part alone (SPECIFICATION, "The third promise, word by word": "the part's own where a part alone keeps"): its
+-- record answers alike in the table, in the two placings and in the table that ranks the parts equally. Assumes
+-- nothing.
 use mathlib.Core.Path.{_≡_, refl, sym, _∙_, ap}
 use mathlib.Core.Logic.{_⊎_, ⊎-elim}
 use mathlib.Core.Bool.{true}

@@ -1,5 +1,5 @@
--- "Keeps among the rows equal in the first's columns" in words, as a test and as a query (document 01, "What demand 3 says,
--- word by word"). Assumes nothing.
+-- "Keeps among the rows equal in the first's columns" in words, as a test and as a query (SPECIFICATION, "The third
+-- promise, word by word"). Assumes nothing.
 use mathlib.Core.Path.{_≡_}
 use mathlib.Core.Logic.{_↔_}
 use mathlib.Core.Bool.{true}

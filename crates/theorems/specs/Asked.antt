@@ -1,4 +1,4 @@
--- What the third signed sentence is said of (document 01, "What demand 3 says, word by word"): "for whatever accepted
+-- What the third signed sentence is said of (SPECIFICATION, "The third promise, word by word"): "for whatever accepted
 -- table, term, rows and group byte Query takes, with answer buffers long enough", and the words that it uses.
 use mathlib.Core.Path.{_≡_}
 use mathlib.Core.Logic.{_⊎_}

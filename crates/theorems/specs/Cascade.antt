@@ -1,5 +1,5 @@
--- Chains (document 01, "The calls"): the rows that Query keeps ungrouped under a chain are equal in its columns, and PRIOR
--- with a chain on the left keeps what the right keeps among the rows kept by the left. Assumes nothing.
+-- Chains (SPECIFICATION, "Chains"): the rows that Query keeps ungrouped under a chain are equal in its columns, and
+-- PRIOR with a chain on the left keeps what the right keeps among the rows kept by the left. Assumes nothing.
 use mathlib.Core.Path.{_≡_, sym, _∙_}
 use mathlib.Core.Logic.{_↔_, inl, inr}
 use mathlib.Core.Bool.{Bool, true, _&&_}

@@ -1,4 +1,4 @@
--- What Query takes, in the words of demand 3; "beaten" as a test; and every dropped row is beaten by a kept row of the set
+-- What Query takes, in the words of the third promise; "beaten" as a test; and every dropped row is beaten by a kept row of the set
 -- (the third signed sentence). Assumes nothing.
 use mathlib.Core.Path.{_≡_, refl}
 use mathlib.Core.Bool.{true, false}

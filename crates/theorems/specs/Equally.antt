@@ -1,5 +1,5 @@
--- What the two parts of a record keep, ranking equally (the third signed sentence; document 01, "What demand 3 says, word
--- by word"). Assumes nothing.
+-- What the two parts of a record keep, ranking equally (the third signed sentence; SPECIFICATION, "The third promise,
+-- word by word"). Assumes nothing.
 use mathlib.Core.Path.{_≡_, refl, sym, _∙_}
 use mathlib.Core.Logic.{_⊎_, inl, inr, _↔_}
 use mathlib.Core.Bool.{Bool, true, false, not, _&&_, _||_, false≢true, true≢false}

@@ -1,5 +1,5 @@
 -- The theorems of src/lib.rt and of the second signed sentence (src/signed.rt) that have hypotheses, on table T1 and rows
--- V of document 01 ("The pick program"), with every hypothesis computed: none of them is empty. Assumes nothing.
+-- V of the specification ("Worked cases"), with every hypothesis computed: none of them is empty. Assumes nothing.
 use mathlib.Core.Path.{_≡_, refl}
 use mathlib.Core.Logic.{_↔_}
 use mathlib.Core.Bool.{true, false, not}

@@ -1,5 +1,5 @@
--- What the third signed sentence is said of, in document 01's words; the sentence as one record; the theorems about its
--- parts, one file for each, and the parts joined; two sentences on the calls; and instances.
+-- What the third signed sentence is said of, in the specification's words; the sentence as one record; the theorems
+-- about its parts, one file for each, and the parts joined; two sentences on the calls; and instances.
 pub mod Strictly
 pub mod Asked
 pub mod ThirdSentence

@@ -1,5 +1,5 @@
--- A term record of an accepted table orders the rows strictly, and Compare's replies say so (document 01, "What demand 3
--- says, word by word": "Strictly"). Assumes nothing.
+-- A term record of an accepted table orders the rows strictly, and Compare's replies say so (SPECIFICATION, "The third
+-- promise, word by word": "Strictly"). Assumes nothing.
 use mathlib.Core.Path.{_≡_, sym, _∙_, ap}
 use mathlib.Core.Logic.{_↔_}
 use mathlib.Core.Bool.{true}

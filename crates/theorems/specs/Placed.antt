@@ -1,5 +1,5 @@
--- The two parts of a record and its placings (document 01, "What demand 3 says, word by word": "Two parts"): Check accepts
--- all three tables, and what one placed before the other keeps. Assumes nothing.
+-- The two parts of a record and its placings (SPECIFICATION, "The third promise, word by word": "Two parts"): Check
+-- accepts all three tables, and what one placed before the other keeps. Assumes nothing.
 use mathlib.Core.Path.{_≡_, _∙_, ap}
 use mathlib.Core.Bool.{Bool, true, _&&_}
 use mathlib.Core.List.{List}

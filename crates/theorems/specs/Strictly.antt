@@ -1,4 +1,4 @@
--- "Strictly" (document 01, "What demand 3 says, word by word").
+-- "Strictly" (SPECIFICATION, "The third promise, word by word").
 use mathlib.Core.Path.{_≡_}
 use mathlib.Core.Bool.{true}
 use mathlib.Core.List.{List}

@@ -1,5 +1,5 @@
--- The third signed sentence needs its last clause on ranking equally (document 01: PARETO of LOWEST 0 and LOWEST 1
--- keeps (3,3) of the rows (1,5) (5,1) (3,3), though it is beaten under both placings). Assumes nothing.
+-- The third signed sentence needs its last clause on ranking equally (the specification: PARETO of LOWEST 0 and LOWEST
+-- 1 keeps (3,3) of the rows (1,5) (5,1) (3,3), though it is beaten under both placings). Assumes nothing.
 use mathlib.Core.Path.{_≡_, refl}
 use mathlib.Core.Logic.{_⊎_, inl, ⊎-elim, _↔_}
 use mathlib.Core.Bool.{true, false}

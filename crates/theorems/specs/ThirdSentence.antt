@@ -1,6 +1,7 @@
--- The third signed sentence (document 00) as the one claim that document 01 makes of it ("What demand 3 says, word by
--- word"): its clauses in their order, of the buffers that Query wrote. Its words are those of specs/Asked. That it holds
--- of whatever Query takes is `third_sentence` of src/signed.rt, and that no query is refused, `query_refuses_none`.
+-- The third signed sentence (SPECIFICATION, "The promises") as the one claim that the specification makes of it ("The
+-- third promise, word by word"): its clauses in their order, of the buffers that Query wrote. Its words are those of
+-- specs/Asked. That it holds of whatever Query takes is `third_sentence` of src/signed.rt, and that no query is refused,
+-- `query_refuses_none`.
 use mathlib.Core.Path.{_≡_}
 use mathlib.Core.Logic.{_⊎_, _↔_}
 use mathlib.Core.Bool.{true, false}

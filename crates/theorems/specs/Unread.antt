@@ -1,4 +1,4 @@
--- Columns that neither the term nor the group reads have no bearing on the answers (document 01, "The calls"): of any
+-- Columns that neither the term nor the group reads have no bearing on the answers (SPECIFICATION, "The calls"): of any
 -- bytes. Assumes nothing.
 use mathlib.Core.Path.{_≡_, refl}
 use mathlib.Core.List.{List}

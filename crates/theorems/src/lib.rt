@@ -1,6 +1,7 @@
-// What is proved of the definitions of `model`: that they mean their sentences, and two sentences of document 01, "The
-// calls". Each function does nothing: its `ensures` is a theorem. What is in quotation marks is a sentence of the
-// signed ones or of document 01. `signed` has the second and the third signed sentence, `parts` the parts of the third.
+// What is proved of the definitions of `model`: that they mean their sentences, and two sentences of SPECIFICATION,
+// "The calls". Each function does nothing: its `ensures` is a theorem. What is in quotation marks is a sentence of the
+// signed ones or of the specification. `signed` has the second and the third signed sentence, `parts` the parts of the
+// third.
 ghost use mathlib.Core.Path.{_≡_};
 ghost use mathlib.Core.Logic.{_↔_};
 ghost use mathlib.Core.Bool.{Bool, true};

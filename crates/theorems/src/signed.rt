@@ -1,7 +1,7 @@
-// The second and the third signed sentence (document 00) on bytes, as document 01 spells them ("The calls", "What
-// demand 3 says, word by word"), for whatever table, term, rows and group byte Query takes. The theorems are about the
-// definitions that the calls' contracts cite (`queryBuffer` is what both engines write); the crate `demands` says it of
-// the calls.
+// The second and the third signed sentence (SPECIFICATION, "The promises") on bytes, as the specification spells them
+// ("The calls", "The third promise, word by word"), for whatever table, term, rows and group byte Query takes. The
+// theorems are about the definitions that the calls' contracts cite (`queryBuffer` is what both engines write); the
+// crate `demands` says it of the calls.
 ghost use mathlib.Core.Path.{_≡_};
 ghost use mathlib.Core.Logic.{_⊎_, _↔_};
 ghost use mathlib.Core.Bool.{true, false};
@@ -84,7 +84,7 @@ pub fn query_refuses_none()
 {}
 
 // "Or when it is beaten under both placings but by no single row of the set under both": without this clause the
-// sentence is false, by document 01's rows (1,5) (5,1) (3,3).
+// sentence is false, by the specification's rows (1,5) (5,1) (3,3).
 pub fn third_clause_needed()
     ensures { λ _. ⌜ (((table : List ℕ) (columns : ℕ) (rows : List ℤ) (k group : ℕ) → Asked table columns rows k group
         → TwoParts table k → (a b c : List ℕ) → Wrote (equally table k) columns rows k group a

@@ -1,5 +1,5 @@
 -- Our own cases, what Check turns down: each number of 1 to 14 with its place, and the order between two that one table
--- can earn at once (document 01, "What a call turns down"). Assumes nothing.
+-- can earn at once (SPECIFICATION, "What a call refuses"). Assumes nothing.
 use mathlib.Core.List.{List, [], _∷_, _++_}
 use Prim.Native.Nat.{ℕ}
 use lib.IntN.{pos}

@@ -1,5 +1,5 @@
-// What each record up to the asked term does, in bytes that the comparison of two rows reads at once (document 01, "Better,
-// term by term"). Entry 4 k is record k's operation: 0 a base term by rank, 1 EXPLICIT, 2 PARETO and BOTH, 3 PRIOR, 4 DUAL.
+// What each record up to the asked term does, in bytes that the comparison of two rows reads at once (SPECIFICATION, "When a
+// row is better"). Entry 4 k is record k's operation: 0 a base term by rank, 1 EXPLICIT, 2 PARETO and BOTH, 3 PRIOR, 4 DUAL.
 // Entry 4 k + 1 is its column or its left part, and entry 4 k + 2 its right part. Each function asks what was prepared before.
 use model::BaseTerm;
 use model::CompoundTerm;

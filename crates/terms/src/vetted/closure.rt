@@ -1,4 +1,5 @@
-// Reachability by the edges of an EXPLICIT term (document 01): an array of arrays over at most 32 edge ends.
+// Reachability by the edges of an EXPLICIT term (SPECIFICATION, "When a row is better"): an array of arrays over at
+// most 32 edge ends.
 use records::record::u_word;
 use records::record::v_word;
 ghost use mathlib.Core.Path.{_≡_};
