@@ -1,5 +1,5 @@
--- Better is a strict order for every sound term (the third promise: "strictly"), and respects the ties that compounds read.
--- Assumes nothing.
+-- Better is a strict order for every sound term (the third promise: "strictly"), and respects the ties that compounds
+-- read. Assumes nothing.
 use mathlib.Core.Path.{_≡_, refl}
 use mathlib.Core.Bool.{Bool, true, false, _&&_, false≢true}
 use mathlib.Core.List.{List}

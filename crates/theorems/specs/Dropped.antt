@@ -1,5 +1,5 @@
--- What Query takes, in the words of the third promise; "beaten" as a test; and every dropped row is beaten by a kept row of the set
--- (the third signed sentence). Assumes nothing.
+-- What Query takes, in the words of the third promise; "beaten" as a test; and every dropped row is beaten by a kept row
+-- of the set. Assumes nothing.
 use mathlib.Core.Path.{_≡_, refl}
 use mathlib.Core.Bool.{true, false}
 use mathlib.Core.List.{List}
