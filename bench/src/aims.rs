@@ -1,5 +1,5 @@
 //! What table 1 says about the aims: by parts against direct, and both against the peer.
-use crate::markdown::{figure, whole};
+use crate::markdown::{figure, item, whole};
 use crate::overview::{Line, SIZES};
 use crate::rows::MOST_ROWS;
 
@@ -27,12 +27,12 @@ impl Aim {
         let short: Vec<String> = short.map(|line| words(&line)).collect();
         let (reach, all) = (lines.len() - short.len(), lines.len());
         match short.is_empty() {
-            true => println!("- {}: {all} of {all} loads.", self.words),
-            false => println!(
-                "- {}: {reach} of {all} loads. Not: {}.",
+            true => item(&format!("{}: {all} of {all} loads.", self.words)),
+            false => item(&format!(
+                "{}: {reach} of {all} loads. Not: {}.",
                 self.words,
                 short.join("; ")
-            ),
+            )),
         }
     }
 }

@@ -30,7 +30,7 @@ pub struct Pace {
     pub rounds: usize,
     /// For so many seconds a call is repeated in a round, but once at least.
     pub batch: f64,
-    /// For so many seconds a search for a dear input goes on.
+    /// For so many seconds a search for a slow input goes on.
     pub search: f64,
     /// The rows under which the records are doubled.
     pub rows: usize,
@@ -83,8 +83,8 @@ pub fn medians(pace: Pace, calls: &mut [&mut dyn FnMut()]) -> Vec<f64> {
     rounds(pace, calls).into_iter().map(median).collect()
 }
 
-/// Microseconds of one call of each, round by round. In a round each is measured once, so that a slow stretch of the machine
-/// meets all.
+/// Microseconds of one call of each, round by round. In a round each is measured once, so that a slow stretch of the
+/// machine meets all.
 pub fn rounds(pace: Pace, calls: &mut [&mut dyn FnMut()]) -> Vec<Vec<f64>> {
     let mut batches = vec![1; calls.len()];
     if pace.batch > 0.0 {
@@ -103,16 +103,16 @@ pub fn rounds(pace: Pace, calls: &mut [&mut dyn FnMut()]) -> Vec<Vec<f64>> {
 
 const FLUSHED: usize = 64 << 20;
 
-/// The same with 64 MiB walked before every call: nothing of the buffers is left in the caches.
+/// The same with 64 MiB written before every call: nothing of the buffers is left in the caches.
 pub fn cold_rounds(rounds: usize, calls: &mut [&mut dyn FnMut()]) -> Vec<Vec<f64>> {
-    let mut walked = vec![1u8; FLUSHED];
+    let mut flushed = vec![1u8; FLUSHED];
     let mut times = vec![Vec::new(); calls.len()];
     for _ in 0..rounds {
         for (i, call) in calls.iter_mut().enumerate() {
-            for line in walked.chunks_mut(64) {
+            for line in flushed.chunks_mut(64) {
                 line[0] = line[0].wrapping_add(1);
             }
-            std::hint::black_box(&mut walked);
+            std::hint::black_box(&mut flushed);
             times[i].push(each(1, call) * 1e6);
         }
     }

@@ -12,7 +12,7 @@ const HEAD: [&str; 9] = [
     "direct, old",
     "new",
     "new/old",
-    "by parts, old",
+    "parts, old",
     "new",
     "new/old",
     "peer new/old",

@@ -29,16 +29,11 @@ impl Line {
         pairs.map(|(i, pair)| (i + 1, pair[1] / pair[0]))
     }
 
-    fn cells(&self) -> Vec<String> {
-        let first = [
-            self.name.clone(),
-            self.who.to_string(),
-            figure(self.times[0]),
-        ];
+    fn figures(&self) -> impl Iterator<Item = String> + '_ {
         let others = self
             .ratios()
-            .map(|(i, ratio)| format!("{} (×{ratio:.2})", figure(self.times[i])));
-        first.into_iter().chain(others).collect()
+            .map(|(i, ratio)| format!("{} ×{ratio:.2}", figure(self.times[i])));
+        [figure(self.times[0])].into_iter().chain(others)
     }
 }
 
@@ -66,10 +61,14 @@ fn rows_doubled(pace: Pace) -> Result<Vec<Curve>, String> {
         let (name, times) = (load.name.clone(), turned(&by_size));
         curves.push(Curve { name, times });
     }
-    let lines = curves
-        .iter()
-        .flat_map(|curve| named(&curve.name, &curve.times));
-    put("rows", &SIZES, 4.0, &lines.collect::<Vec<_>>());
+    let mut all = Vec::new();
+    for curve in &curves {
+        println!("{}:\n", curve.name);
+        let lines = named(&curve.name, &curve.times);
+        put(&["rows"], &SIZES, &lines, |line| vec![line.who.to_string()]);
+        all.extend(lines);
+    }
+    over(&SIZES, 4.0, &all);
     println!(
         "Where every pair of n rows is compared, the pairs themselves grow by 4 + 2/(n - 1).\n"
     );
@@ -95,7 +94,10 @@ fn records_doubled(pace: Pace) -> Result<(), String> {
         let name = format!("{} {points} rows", whole(rows));
         lines.extend(named(&name, &turned(&by_terms)));
     }
-    put("base terms", &TERMS, 2.0, &lines);
+    put(&["base terms", ""], &TERMS, &lines, |line| {
+        vec![line.name.clone(), line.who.to_string()]
+    });
+    over(&TERMS, 2.0, &lines);
     Ok(())
 }
 
@@ -129,12 +131,21 @@ fn named(name: &str, times: &[Vec<f64>]) -> Vec<Line> {
     NAMES.iter().zip(times).map(line).collect()
 }
 
-/// The table, and below it each doubling that costs the library more than the bound.
-fn put(what: &str, steps: &[usize], bound: f64, lines: &[Line]) {
+/// A table whose first columns say which line it is.
+fn put(first: &[&str], steps: &[usize], lines: &[Line], words: fn(&Line) -> Vec<String>) {
     let sizes: Vec<String> = steps.iter().map(|&step| whole(step)).collect();
-    let mut head = vec![what, ""];
+    let mut head = first.to_vec();
     head.extend(sizes.iter().map(String::as_str));
-    table(2, &head, &lines.iter().map(Line::cells).collect::<Vec<_>>());
+    let cells = |line: &Line| words(line).into_iter().chain(line.figures()).collect();
+    table(
+        first.len(),
+        &head,
+        &lines.iter().map(cells).collect::<Vec<_>>(),
+    );
+}
+
+/// Each doubling that costs the library more than the bound.
+fn over(steps: &[usize], bound: f64, lines: &[Line]) {
     println!("A doubling costs the library at most {bound} times, but for:\n");
     let ours = lines.iter().filter(|line| line.who != NAMES[2]);
     let over = ours.flat_map(|line| line.ratios().map(move |step| (line, step)));
@@ -144,8 +155,8 @@ fn put(what: &str, steps: &[usize], bound: f64, lines: &[Line]) {
             "- {}, {}: {} to {}, ×{ratio:.2}",
             line.name,
             line.who,
-            sizes[i - 1],
-            sizes[*i]
+            whole(steps[i - 1]),
+            whole(steps[*i])
         );
     }
     println!("{}", if over.is_empty() { "- nothing\n" } else { "" });

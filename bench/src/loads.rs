@@ -52,7 +52,7 @@ pub fn loads() -> Vec<Load> {
     all.extend([4, 256].map(groups));
     all.push(sixty_four());
     all.push(load(
-        "64 base terms, balanced, mid range",
+        "64 base terms, balanced",
         balanced(),
         independent(9, 20),
     ));
@@ -81,20 +81,16 @@ pub fn pareto(columns: usize, points: &str) -> Load {
         "equal rows" => independent(seed, 1),
         _ => independent(seed, 1_000_000),
     };
-    let name = format!("PARETO of {columns} LOWEST, {points}");
+    let name = format!("PARETO of {columns}, {points}");
     load(&name, lowest(PARETO, columns), rows)
 }
 
 /// The first column decides nearly all pairs where values are many; pairs go deep where they are few.
 fn priors() -> [Load; 2] {
     [
+        load("PRIOR of 8", lowest(PRIOR, 8), independent(5, 1_000_000)),
         load(
-            "PRIOR of 8 LOWEST",
-            lowest(PRIOR, 8),
-            independent(5, 1_000_000),
-        ),
-        load(
-            "PRIOR of 8 LOWEST, two values",
+            "PRIOR of 8, two values",
             lowest(PRIOR, 8),
             independent(5, 2),
         ),
@@ -103,7 +99,7 @@ fn priors() -> [Load; 2] {
 
 /// The last column, with as many values as there are groups, is what rows of a group are equal in.
 fn groups(count: u64) -> Load {
-    let name = format!("PARETO of 4 LOWEST, {count} groups");
+    let name = format!("PARETO of 4, {count} groups");
     let rows = grouped(independent(41, 1_000_000), count);
     Load {
         group: 1 << (rows::COLUMNS - 1),
@@ -112,11 +108,7 @@ fn groups(count: u64) -> Load {
 }
 
 pub fn sixty_four() -> Load {
-    load(
-        "64 base terms, left-leaning, mid range",
-        deep(),
-        independent(9, 20),
-    )
+    load("64 base terms, left-leaning", deep(), independent(9, 20))
 }
 
 /// PARETO of LOWEST and AROUND in turn, over so many base terms.

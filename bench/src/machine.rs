@@ -5,11 +5,12 @@ use std::process::Command;
 pub fn describe() {
     let cores = std::thread::available_parallelism().map_or(0, |n| n.get());
     println!("- Machine: {}, {cores} cores, Linux {}", model(), kernel());
+    println!("- Compiler of the library: {}", said("rt", "version"));
     println!(
-        "- Compilers: library {}; bench and peer {}, opt-level 3, LTO; all for plain x86-64",
-        said("rt", "version"),
+        "- Compiler of bench and peer: {}, opt-level 3, LTO",
         said("rustc", "--version")
     );
+    println!("- All for plain x86-64");
     println!(
         "- Load of the machine at the start (1, 5, 15 minutes): {}",
         load()

@@ -3,7 +3,6 @@
 mod aims;
 mod clock;
 mod compare;
-mod dearest;
 mod engines;
 mod growth;
 mod inputs;
@@ -13,6 +12,7 @@ mod markdown;
 mod overview;
 mod rows;
 mod search;
+mod slowest;
 mod svg;
 mod table;
 
@@ -57,12 +57,13 @@ fn tables(options: &Options) -> Result<(), String> {
     println!("# Bench\n");
     machine::describe();
     println!(
-        "Each figure is the median of {} rounds, in processor time of this process; in table 1 each ratio is the median of the rounds' own.\n",
+        "Each figure is the median of {} rounds, in processor time of this process.",
         pace.rounds
     );
+    println!("In table 1 each ratio is the median of the rounds' own.\n");
     overview::print(pace)?;
     let curves = growth::print(pace)?;
-    dearest::print(pace)?;
+    slowest::print(pace)?;
     if let Some(file) = &options.svg {
         std::fs::write(file, svg::picture(&curves)).map_err(|error| format!("{file}: {error}"))?;
     }

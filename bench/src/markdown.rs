@@ -33,6 +33,22 @@ fn line(left: usize, widths: &[usize], cells: &[String]) {
     println!("{text}");
 }
 
+/// Lines of a list item have at most so many characters.
+const WIDTH: usize = 116;
+
+/// A list item, on as many lines as it needs.
+pub fn item(words: &str) {
+    let mut line = String::from("-");
+    for word in words.split(' ') {
+        if line.chars().count() + 1 + word.chars().count() > WIDTH {
+            println!("{line}");
+            line = String::from(" ");
+        }
+        line = line + " " + word;
+    }
+    println!("{line}");
+}
+
 /// Thousands with commas.
 pub fn whole(number: usize) -> String {
     let digits = number.to_string();

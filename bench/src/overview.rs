@@ -18,8 +18,8 @@ const HEAD: [&str; 9] = [
     "by parts",
     "peer",
     "peer/direct",
-    "peer/by parts",
-    "direct/by parts",
+    "peer/parts",
+    "direct/parts",
 ];
 
 /// One load at one size: microseconds of each of the three, and their ratios.
@@ -88,6 +88,7 @@ fn put(lines: &[Line]) {
 
 pub fn print(pace: Pace) -> Result<(), String> {
     println!("## Table 1: one query, microseconds\n");
+    println!("PARETO of n and PRIOR of n: over n LOWEST, each of a column of its own.");
     println!("Warm: the same buffers in every round.\n");
     let loads = loads::loads();
     let mut all = Vec::new();
@@ -107,7 +108,7 @@ pub fn print(pace: Pace) -> Result<(), String> {
         Line::warm(pace, &small, 1)?,
         Line::warm(pace, &small, V.len())?,
     ]);
-    println!("### Cold: 64 MiB walked before each call\n");
+    println!("### Cold: 64 MiB written before each call\n");
     put(&[
         Line::cold(pace, &small, V.len())?,
         Line::cold(pace, &loads::pareto(2, "independent"), MOST_ROWS)?,

@@ -70,7 +70,7 @@ pub fn grouped(mut rows: Vec<i32>, groups: u64) -> Vec<i32> {
     rows
 }
 
-/// V of the paper; its other columns are zero.
+/// The rows V (SPECIFICATION, "Worked cases"); their other columns are zero.
 pub const V: [[i32; COLUMNS]; 7] = [
     [-5, 3, 4, 0, 0, 0, 0, 0],
     [-5, 4, 4, 0, 0, 0, 0, 0],

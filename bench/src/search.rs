@@ -1,4 +1,4 @@
-//! A seeded search for the dearest input, by small changes.
+//! A seeded search for the slowest input, by small changes.
 use crate::clock;
 use crate::engines::check;
 use crate::inputs::Input;
@@ -14,8 +14,8 @@ pub struct Found {
     pub tried: usize,
 }
 
-/// The cost of an input over so many rows, or 0 if its table is refused. A cost above `least` is measured again, so that
-/// a slow stretch of the machine does not pass for a dear input.
+/// The cost of an input over so many rows, or 0 if its table is refused. A cost above `least` is measured again, so
+/// that a slow stretch of the machine does not pass for a slow input.
 fn price(input: &Input, count: usize, least: f64, cost: &dyn Fn(&Load) -> f64) -> f64 {
     let load = input.load(count);
     if check(&load.table).refusal != 0 {
@@ -28,7 +28,7 @@ fn price(input: &Input, count: usize, least: f64, cost: &dyn Fn(&Load) -> f64) -
 }
 
 /// A change that costs more is taken; where none is found for a while, the search starts again elsewhere.
-pub fn dearest(seconds: f64, seed: u64, count: usize, cost: &dyn Fn(&Load) -> f64) -> Found {
+pub fn slowest(seconds: f64, seed: u64, count: usize, cost: &dyn Fn(&Load) -> f64) -> Found {
     let mut random = Random::new(seed);
     let ends = clock::seconds() + seconds;
     let mut best = (0.0, Input::random(&mut random));
@@ -39,11 +39,11 @@ pub fn dearest(seconds: f64, seed: u64, count: usize, cost: &dyn Fn(&Load) -> f6
         let mut idle = 0;
         while idle < IDLE_CHANGES && clock::seconds() < ends {
             let next = here.1.changed(&mut random);
-            let dearer = price(&next, count, here.0, cost);
+            let more = price(&next, count, here.0, cost);
             idle += 1;
             tried += 1;
-            if dearer > here.0 {
-                here = (dearer, next);
+            if more > here.0 {
+                here = (more, next);
                 idle = 0;
             }
         }

@@ -70,7 +70,8 @@ pub fn picture(curves: &[Curve]) -> String {
     let width = LEFT + curves.len() as f64 * (PANEL + GAP);
     let height = TOP + HEIGHT + BELOW;
     let mut svg = format!(
-        r#"<svg xmlns="http://www.w3.org/2000/svg" width="{width}" height="{height}" viewBox="0 0 {width} {height}" role="img">
+        r#"<svg xmlns="http://www.w3.org/2000/svg" width="{width}" height="{height}"
+  viewBox="0 0 {width} {height}" role="img">
   <title>Time of one query over the number of rows: direct, by parts and the peer</title>
 {STYLE}  <rect width="{width}" height="{height}" rx="6" class="card"/>
 "#

@@ -24,7 +24,7 @@ pub const DISLIKED: u8 = 2;
 pub const SECOND_CHOICE: u8 = 3;
 pub const EDGE: u8 = 4;
 
-/// The paper's word for a kind.
+/// The word for a kind (SPECIFICATION, "The table").
 pub fn name(kind: u8) -> &'static str {
     match kind {
         VALUE => "values",

@@ -1,4 +1,4 @@
-//! "Better, term by term": x < y reads "y is better".
+//! SPECIFICATION, "When a row is better". x < y reads "y is better".
 
 use crate::table::{
     Record, Table, AROUND, BETWEEN, BOTH, DISLIKED, DUAL, EDGE, EXPLICIT, FAVOURITE, HIGHEST,

@@ -1,5 +1,7 @@
-//! An independent reading of document 01, for tests: definitions over all rows,
-//! graph search for reachability, and the table of refusals as it stands.
+//! An independent implementation, for tests: read from the specification's
+//! sources (SPECIFICATION, "Sources"), whose sentences stand in quotation marks
+//! beside the code, and sharing no code with the library. It has definitions over
+//! all rows, graph search for reachability, and the table of refusals as it stands.
 
 mod better;
 mod mistakes;
@@ -13,8 +15,8 @@ mod wrong;
 pub use mistakes::Mistake;
 use refusals::Asked;
 
-/// A refusal: its number in document 01's table, and the record as place where
-/// it gives one.
+/// A refusal (SPECIFICATION, "What a call refuses"): its number, and the record
+/// as place where it gives one.
 #[derive(Clone, Copy, Debug, PartialEq, Eq)]
 pub struct Refused {
     pub number: u32,

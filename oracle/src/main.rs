@@ -1,5 +1,5 @@
-//! Prints what document 01's `pick` prints, from `prefs.bin` and `rows.bin` in
-//! the working directory.
+//! Prints what `pick` prints (SPECIFICATION, "The program pick"), from `prefs.bin`
+//! and `rows.bin` in the working directory.
 
 use oracle::Oracle;
 use std::fs::File;
@@ -15,8 +15,8 @@ fn main() {
     }
 }
 
-/// "A missing file reads as empty." One that is there but cannot be read answers
-/// as an empty one, and a line on standard error names it.
+/// "A missing file reads as empty." One that is there but cannot be read counts
+/// as empty, and a line on standard error names it.
 fn contents(name: &str, most: u64) -> Vec<u8> {
     let mut bytes = Vec::new();
     let read = File::open(name).and_then(|file| file.take(most).read_to_end(&mut bytes));

@@ -1,4 +1,5 @@
-//! The planted mistakes: one wrong reading of document 01 each, in plain words.
+//! The planted mistakes: one wrong reading of the specification each, in plain
+//! words.
 
 /// Declares each mistake once, with its words.
 macro_rules! mistakes {
@@ -23,7 +24,7 @@ macro_rules! mistakes {
 }
 
 mistakes! {
-    // The five traps.
+    // The mistakes that whoever codes this is likely to make.
     EqualDistanceEqual: "PARETO takes equal distance as equal.",
     NarrowDistance: "Distance is subtracted in 32 bits.",
     DroppedWitness: "The entry is the first better row, though it was dropped itself.",

@@ -1,4 +1,4 @@
-//! Perfect: the mark of a row that no other value could better.
+//! SPECIFICATION, "Perfect": the mark of a row that no other value could better.
 
 use crate::better::cell;
 use crate::refusals::Asked;

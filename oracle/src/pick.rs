@@ -1,4 +1,4 @@
-//! "The pick program": what it prints for the bytes of its two files.
+//! SPECIFICATION, "The program pick": what it prints for the bytes of its two files.
 
 use crate::refusals::{MOST_ROWS, ROWS};
 use crate::{Oracle, Refused};

@@ -18,8 +18,7 @@ pub struct Query<'a> {
 }
 
 impl Query<'_> {
-    /// "Where these papers or the signed sentences say 'the set', the rows of one
-    /// group are meant."
+    /// Where a sentence says "the set", "the rows of one group are meant".
     fn same_set(&self, i: usize, j: usize) -> bool {
         equal_in(&self.group, self.rows[i], self.rows[j])
     }

@@ -1,4 +1,4 @@
-//! "What a call turns down": document 01's table of refusals, row by row, and
+//! SPECIFICATION, "What a call refuses": the table of refusals, row by row, and
 //! its order.
 
 use crate::table::{

@@ -1,4 +1,4 @@
-//! The table of document 01: its records as they stand in the bytes, the value
+//! SPECIFICATION, "The table": the records as they stand in the bytes, the value
 //! records of each term and the columns each term reads.
 
 use crate::{Mistake, Oracle};

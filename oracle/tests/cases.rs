@@ -1,5 +1,4 @@
-//! Document 01's cases of selection, starred and not, and cases on each side of
-//! every kind of term.
+//! SPECIFICATION, "Worked cases", and cases on each side of every kind of term.
 
 mod common;
 
@@ -20,7 +19,7 @@ fn t1() -> Vec<u8> {
     ])
 }
 
-/// Rows V (source Example 2).
+/// Rows V (Example 2 of the report).
 const V: [[i32; 3]; 7] = [
     [-5, 3, 4],
     [-5, 4, 4],

@@ -1,4 +1,4 @@
-//! Document 01's rule under Perfect.
+//! SPECIFICATION, "Perfect".
 
 mod common;
 
@@ -127,7 +127,7 @@ fn unlisted_and_empty_lists() {
     let neg = [base(NEG, 0), value(DISLIKED, 3)];
     assert!(!perfect(&neg, 0, &[3]));
     assert!(perfect(&neg, 0, &[4]));
-    // Source Example 8: "Note that red is a perfect match", of the edges (green,
+    // Example 8 of the report: "Note that red is a perfect match", of the edges (green,
     // yellow), (green, red), (yellow, white) as 4, 3, 2 and 1.
     let explicit = [base(EXPLICIT, 0), edge(4, 3), edge(4, 2), edge(3, 1)];
     assert!(perfect(&explicit, 0, &[2]));

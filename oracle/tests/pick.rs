@@ -1,4 +1,5 @@
-//! "The pick program": its lines, and the program itself in a folder.
+//! SPECIFICATION, "The program pick": its lines, and the program itself in a
+//! folder.
 
 mod common;
 

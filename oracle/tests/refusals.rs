@@ -1,4 +1,4 @@
-//! Document 01's table of refusals: each number, its place and its order.
+//! SPECIFICATION, "What a call refuses": each number, its place and its order.
 
 mod common;
 
@@ -7,7 +7,7 @@ use oracle::{Oracle, Refused};
 
 const ORACLE: Oracle = Oracle { mistake: None };
 
-/// The number and the place with which the table is turned down.
+/// The number and the place with which the table is refused.
 fn check(records: &[Bytes], columns: usize) -> (u32, Option<usize>) {
     turned_down(ORACLE.check(&table(records), columns))
 }
@@ -85,7 +85,7 @@ fn turned_down_or_none(records: &[Bytes]) -> Option<(u32, Option<usize>)> {
 fn filler_by_role() {
     let under = |kind, value| check(&[base(kind, 0), value], 1);
     let filled = |role, v| record(0, [role, 0, 0], 5, v);
-    // Open point 3: a value goes by its own role, taken or not.
+    // A value goes by its own role, taken or not.
     assert_eq!(under(POS, filled(4, 1)), (8, Some(1)));
     assert_eq!(under(EXPLICIT, filled(1, 1)), (4, Some(1)));
     assert_eq!(under(POS, filled(1, 1)), (4, Some(1)));
@@ -120,7 +120,7 @@ fn part() {
     assert_eq!(check(&[pos[0], pos[1], dual(1)], 1), (6, Some(2)));
     let right_is_value = compound(PARETO, 0, 1);
     assert_eq!(check(&[pos[0], pos[1], right_is_value], 1), (6, Some(2)));
-    // Open point 2: left reused, right no term.
+    // PART of both parts goes before REUSED: left reused, right no term.
     let records = [lowest, dual(0), compound(PARETO, 0, 2)];
     assert_eq!(check(&records, 1), (6, Some(2)));
 }
@@ -255,7 +255,7 @@ fn apart() {
     let with = |kind| [parts[0], parts[1], compound(kind, 0, 1)];
     assert_eq!(check(&with(BOTH), 2), (13, Some(2)));
     passes(&with(PARETO), 2);
-    // Open point 6: a proper subset is APART too.
+    // A proper subset is APART too.
     let pareto = with(PARETO);
     let subset = [
         pareto[0],
@@ -286,7 +286,7 @@ fn loose() {
     assert_eq!(check(&three, 1), (14, Some(0)));
     let middle = [three[0], three[1], dual(0)];
     assert_eq!(check(&middle, 1), (14, Some(1)));
-    // Open point 4: the last term is meant, values may follow it.
+    // The last term is meant, values may follow it.
     passes(&[base(POS, 0), value(FAVOURITE, 1)], 1);
 }
 
@@ -344,7 +344,7 @@ fn single_rows() {
     ] {
         assert_eq!(compare(first, second, 3), Err((15, None)));
     }
-    // Open point 10: ROWS, then TERM.
+    // ROWS, then TERM.
     assert_eq!(compare(&[1], &[3, 4], 4), Err((15, None)));
     assert_eq!(compare(&[1, 2], &[3, 4], 4), Err((16, None)));
     let perfect = |row: &[i32], term| turned_down(ORACLE.perfect(&small(), 2, term, row));

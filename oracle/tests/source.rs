@@ -1,4 +1,4 @@
-//! Examples and laws of source document 000, as far as its text gives them.
+//! Examples and laws of the report, as far as its text gives them.
 
 mod common;
 

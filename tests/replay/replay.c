@@ -1,5 +1,5 @@
-/* Runs the cases that the random tests wrote through the C header: each reply and each entry must be as it was seen from
- * Rust. Compiles as C11 and as C++17. The file is described in tests/agree/src/replay.rs. */
+/* Runs the cases that the random tests wrote through the C header: each reply and each entry must be as it was seen
+ * from Rust. Compiles as C11 and as C++17. The file is described in tests/agree/src/replay.rs. */
 #include "finialbasil.h"
 
 #include <stdio.h>

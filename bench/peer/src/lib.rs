@@ -1,6 +1,6 @@
-//! Query as plain Rust would have it, written from the paper alone: a tree of terms, a recursive comparison, a nested
-//! loop over the rows that are not dropped. The bench measures the library against it. It does not check the table:
-//! one that the check refuses gives nonsense or panics.
+//! Query as one would write it in plain Rust (SPECIFICATION, "When a row is better" and "Query"): a tree of terms, a
+//! recursive comparison, a nested loop over the rows that are not dropped. The bench measures the library against it.
+//! It does not check the table: one that the check refuses gives nonsense or panics.
 #![forbid(unsafe_code)]
 
 mod term;

@@ -1,5 +1,5 @@
-//! Writes the example: `prefs.bin` (the wish), `rows.bin` (the catalogue) and `motors.csv` (the catalogue as text) to the
-//! folder that is named, or to this example's own.
+//! Writes the example: `prefs.bin` (the wish), `rows.bin` (the catalogue) and `motors.csv` (the catalogue as text) to
+//! the folder that is named, or to this example's own.
 mod catalogue;
 mod wish;
 

@@ -7,8 +7,8 @@ use crate::rows::Rows;
 use crate::trees;
 
 /// Every pair of every call, low number first. No pair is impossible: each number's condition speaks of something that
-/// can be wrong beside all others, the count, the length, one of up to 128 records, the rows, the term, the group or the
-/// buffer; two of 3 to 13 can stand in different records.
+/// can be wrong beside all others, the count, the length, one of up to 128 records, the rows, the term, the group or
+/// the buffer; two of 3 to 13 can stand in different records.
 pub fn pairs() -> Vec<(Asks, usize, usize)> {
     let mut pairs = vec![];
     for asks in Asks::ALL {

@@ -1,4 +1,4 @@
-//! Inputs at the limits of document 01, each value of a list in turn.
+//! Inputs at the limits (SPECIFICATION, "Limits"), each value of a list in turn.
 
 use crate::faults::WIDTHS;
 use crate::input::{Asks, Input, Origin};

@@ -1,7 +1,7 @@
 //! Random inputs by every call: the compiled library against the oracle, with what was reached printed and asserted.
 //!
-//! `agree [--replay FILE] [--pick PROGRAM]` runs; `agree --show NUMBER` prints one input. FINIALBASIL_SEED sets the seed,
-//! FINIALBASIL_INPUTS the number of inputs. It ends with status 0 only if all agrees and all is reached.
+//! `agree [--replay FILE] [--pick PROGRAM]` runs; `agree --show NUMBER` prints one input. FINIALBASIL_SEED sets the
+//! seed, FINIALBASIL_INPUTS the number of inputs. It ends with status 0 only if all agrees and all is reached.
 
 mod compare;
 mod coverage;

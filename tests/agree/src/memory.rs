@@ -26,7 +26,8 @@ const FIXED: c_int = 16;
 const ANONYMOUS: c_int = 32;
 pub const PAGE: usize = 4_096;
 
-/// Where a lent piece lies: its end at the guard page behind, its start at the one before, or some bytes from the start.
+/// Where a lent piece lies: its end at the guard page behind, its start at the one before, or some bytes from the
+/// start.
 #[derive(Clone, Copy, Debug, PartialEq, Eq)]
 pub enum Flush {
     End,
@@ -53,7 +54,8 @@ impl Lent {
     }
 
     fn mapped(size: usize, allowed: c_int) -> Lent {
-        // SAFETY: the frame is a mapping of its own, and the view lies inside it; both stay mapped until the program ends.
+        // SAFETY: the frame is a mapping of its own, and the view lies inside it; both stay mapped until the program
+        // ends.
         unsafe {
             let file = memfd_create(c"lent".as_ptr(), 0);
             assert!(

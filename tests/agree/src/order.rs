@@ -1,4 +1,5 @@
-//! Two faults in one record: the lower number is the reply. Each input states its reply, read off the table of refusals.
+//! Two faults in one record: the lower number is the reply. Each input states its reply (SPECIFICATION, "What a call
+//! refuses").
 
 use crate::input::{Asks, Input, Origin};
 use crate::random::Random;

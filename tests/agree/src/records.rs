@@ -1,4 +1,4 @@
-//! The writer of tables: records of 12 bytes, by "The table" of document 01, and what can be read off an accepted table.
+//! The writer of tables: records of 12 bytes (SPECIFICATION, "The table"), and what can be read off an accepted table.
 
 pub const VALUE: u8 = 0;
 pub const LOWEST: u8 = 1;

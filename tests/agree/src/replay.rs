@@ -1,8 +1,8 @@
 //! The file that `tests/replay` runs through the C header: inputs, and the library's replies as seen from Rust.
 //!
 //! Numbers are low byte first. "fnbrply1", the number of cases, then for each case eight numbers of 64 bits (call,
-//! columns, term, group, bytes of the table, numbers of the first row or of the rows, numbers of the second row, entries),
-//! the table, the rows, the entries before the call and after it, and six numbers of 32 bits: the reply.
+//! columns, term, group, bytes of the table, numbers of the first row or of the rows, numbers of the second row,
+//! entries), the table, the rows, the entries before the call and after it, and six numbers of 32 bits: the reply.
 
 use crate::coverage::REFUSALS;
 use crate::input::{Asks, Call, Input};

@@ -2,9 +2,9 @@
 use crate::clock::{self, Pace};
 use crate::engines::{agreed, by_parts, check, compare, direct, timed, Engine, NAMES};
 use crate::loads::{self, Load};
-use crate::markdown::{figure, table, whole};
+use crate::markdown::{figure, item, table, whole};
 use crate::rows::{MOST_ROWS, V};
-use crate::search::dearest;
+use crate::search::slowest;
 use crate::table::*;
 use std::hint::black_box;
 
@@ -13,17 +13,17 @@ const SEARCHED_ROWS: usize = 128;
 const SEED: u64 = 2001;
 
 pub fn print(pace: Pace) -> Result<(), String> {
-    println!("## Table 3: the dearest inputs\n");
+    println!("## Table 3: the slowest inputs\n");
     queries(pace)?;
     checks(pace)?;
     comparisons(pace)
 }
 
-/// The dearest query that the search finds for each engine, measured over 1,024 rows.
+/// The slowest query that the search finds for each engine, measured over 1,024 rows.
 fn queries(pace: Pace) -> Result<(), String> {
     println!("### Queries, {} rows, microseconds\n", whole(MOST_ROWS));
     let seconds = pace.search;
-    println!("The dearest that a search of {seconds} seconds finds over {SEARCHED_ROWS} rows, seed {SEED}.\n");
+    println!("The slowest that a search of {seconds} seconds finds over {SEARCHED_ROWS} rows, seed {SEED}.\n");
     let mut lines = Vec::new();
     let mut words = Vec::new();
     for (name, engine) in [("direct", direct as Engine), ("by parts", by_parts)] {
@@ -33,24 +33,27 @@ fn queries(pace: Pace) -> Result<(), String> {
                 drop(black_box(engine(load, SEARCHED_ROWS, &mut answers)))
             })
         };
-        let found = dearest(seconds, SEED, SEARCHED_ROWS, &cost);
+        let found = slowest(seconds, SEED, SEARCHED_ROWS, &cost);
         let load = found.input.load(MOST_ROWS);
         let kept = agreed(&load, MOST_ROWS)?;
         let mut line = vec![name.to_string(), whole(found.tried), whole(kept)];
         line.extend(timed(pace, &load, MOST_ROWS).into_iter().map(figure));
         lines.push(line);
-        words.push(format!("- Dear for {name}: {}", load.name));
+        words.push(format!("Slowest for {name}: {}", load.name));
     }
     table(
         1,
-        &["dear for", "tried", "kept", NAMES[0], NAMES[1], NAMES[2]],
+        &["slowest for", "tried", "kept", NAMES[0], NAMES[1], NAMES[2]],
         &lines,
     );
-    println!("{}\n", words.join("\n"));
+    for words in words {
+        item(&words);
+    }
+    println!();
     Ok(())
 }
 
-/// The tables that are dear by their make, and the dearest that the search finds.
+/// The tables that cost much by their make, and the slowest that the search finds.
 fn checks(pace: Pace) -> Result<(), String> {
     println!("### The check, microseconds\n");
     let cost = |load: &Load| {
@@ -58,7 +61,7 @@ fn checks(pace: Pace) -> Result<(), String> {
             black_box(check(black_box(&load.table)));
         })
     };
-    let found = dearest(pace.search / 2.0, SEED, 1, &cost).input;
+    let found = slowest(pace.search / 2.0, SEED, 1, &cost).input;
     let tables = [
         (
             "seven EXPLICIT of 16 edges joined by PARETO".to_string(),
@@ -66,7 +69,7 @@ fn checks(pace: Pace) -> Result<(), String> {
         ),
         ("127 DUALs over one base term".to_string(), duals()),
         ("63 BOTH over 64 base terms".to_string(), boths()),
-        (format!("found: {}", found.table_words()), found.table().0),
+        ("found by the search".to_string(), found.table().0),
     ];
     let mut lines = Vec::new();
     for (name, Table { bytes }) in tables {
@@ -94,6 +97,8 @@ fn checks(pace: Pace) -> Result<(), String> {
         &["table", "records", "time", "under a millisecond"],
         &lines,
     );
+    item(&format!("Found by the search: {}", found.table_words()));
+    println!();
     Ok(())
 }
 
