@@ -1,24 +1,54 @@
-//! Links libfinialbasil.a: from the folder that FINIALBASIL_LIB_DIR names, else from `lib` beside this file, as in a
-//! delivery, else from where `rt staticlib finialbasil` writes it in the repository.
+//! Links `libfinialbasil.a`: from the folder that `FINIALBASIL_LIB_DIR` names, and from no other; where that is not
+//! set, from `lib` beside this file, as in a delivery, else from where `make archive` writes it in the repository.
 use std::env;
-use std::path::{Path, PathBuf};
+use std::path::PathBuf;
+use std::process::ExitCode;
 
-fn main() {
-    let here = Path::new(env!("CARGO_MANIFEST_DIR"));
-    let named = env::var_os("FINIALBASIL_LIB_DIR").map(PathBuf::from);
-    let folders = named
-        .into_iter()
-        .chain([here.join("lib"), here.join("../../target/staticlib")]);
+const ARCHIVE: &str = "libfinialbasil.a";
+
+fn main() -> ExitCode {
     println!("cargo:rerun-if-env-changed=FINIALBASIL_LIB_DIR");
-    for folder in folders {
-        let archive = folder.join("libfinialbasil.a");
-        if archive.exists() {
-            println!("cargo:rerun-if-changed={}", archive.display());
+    match folder() {
+        Ok(folder) => {
+            println!("cargo:rerun-if-changed={}", folder.join(ARCHIVE).display());
             println!("cargo:rustc-link-search=native={}", folder.display());
             println!("cargo:rustc-link-lib=static=finialbasil");
-            return;
+            ExitCode::SUCCESS
+        }
+        Err(why) => {
+            eprintln!("{why}");
+            ExitCode::FAILURE
         }
     }
-    eprintln!("libfinialbasil.a is missing: build it with `rt staticlib finialbasil`, or name its folder in FINIALBASIL_LIB_DIR");
-    std::process::exit(1);
+}
+
+/// The folder with the archive, or a sentence that says why there is none.
+fn folder() -> Result<PathBuf, String> {
+    let target = |part| env::var(format!("CARGO_CFG_TARGET_{part}")).unwrap_or_default();
+    let target = format!("{} {}", target("ARCH"), target("OS"));
+    if target != "x86_64 linux" {
+        return Err(format!(
+            "{ARCHIVE} is for x86_64 linux, and this build is for {target}."
+        ));
+    }
+    // A relative folder is taken from here, and not from wherever the linker runs.
+    let here = PathBuf::from(env::var_os("CARGO_MANIFEST_DIR").unwrap_or_default());
+    let has_archive = |folder: &PathBuf| folder.join(ARCHIVE).is_file();
+    if let Some(named) = env::var_os("FINIALBASIL_LIB_DIR") {
+        let named = here.join(named);
+        return if has_archive(&named) {
+            Ok(named)
+        } else {
+            Err(format!(
+                "FINIALBASIL_LIB_DIR names {}, where there is no {ARCHIVE}.",
+                named.display()
+            ))
+        };
+    }
+    [here.join("lib"), here.join("../../target/staticlib")]
+        .into_iter()
+        .find(has_archive)
+        .ok_or(format!(
+            "There is no {ARCHIVE}: name its folder in FINIALBASIL_LIB_DIR, or in the repository run `make archive`."
+        ))
 }

@@ -1,7 +1,7 @@
 //! Which motors to quote: around 24 volts; then price and weight, ranking equally.
-use finialbasil::{Answer, Engine, Refusal, Table};
+use finialbasil::{Answer, Refusal, Table};
 
-pub fn report() -> Result<String, Refusal> {
+pub(crate) fn report() -> Result<String, Refusal> {
     let mut table = Table::new();
     let volts = table.around(0, 24)?;
     let price = table.lowest(1)?;
@@ -10,14 +10,17 @@ pub fn report() -> Result<String, Refusal> {
     let wish = table.prior(volts, equally)?;
 
     let motors = [[24, 90, 12], [24, 80, 15], [24, 85, 16], [12, 50, 5]];
-    let answers = table.query(3, motors.as_flattened(), wish, 0, Engine::Auto)?;
+    let answers = table.query(wish).run(&motors)?;
     let mut report = format!("{} of {} kept\n", answers.kept_count(), answers.len());
-    for (motor, answer) in answers.iter().enumerate() {
-        report += &match answer {
-            Answer::Kept => format!("{motor} kept\n"),
-            Answer::Dropped { by } => format!("{motor} dropped: {by} is better\n"),
-        };
-    }
+    report.extend(
+        answers
+            .iter()
+            .enumerate()
+            .map(|(motor, answer)| match answer {
+                Answer::Kept => format!("{motor} kept\n"),
+                Answer::Dropped { by } => format!("{motor} dropped: {by} is better\n"),
+            }),
+    );
     Ok(report)
 }
 

@@ -1,7 +1,8 @@
-//! Preference selection over rows of whole numbers: a safe interface to the proved library Finialbasil.
+//! Keeps the rows of a catalogue that no other row betters, under wishes such as "around 24 volts, then price and
+//! weight equally": a safe interface to the proved library Finialbasil.
 //!
-//! Wishes such as "around 24 volts" or "price and weight equally" are the terms of a [`Table`]. A query keeps the rows
-//! that no other row betters under a term, and says of each dropped row which kept row is better.
+//! The wishes are the terms of a [`Table`]. A query keeps a row exactly when no row of its set is better, and names for
+//! each dropped row the lowest-numbered kept row that is better.
 //!
 //! # One query
 //!
@@ -9,7 +10,7 @@
 //! equally.
 //!
 //! ```
-//! use finialbasil::{Answer, Engine, Table};
+//! use finialbasil::{Answer, Table};
 //!
 //! # fn main() -> Result<(), finialbasil::Refusal> {
 //! let mut table = Table::new();
@@ -22,10 +23,10 @@
 //! let motors = [
 //!     [24, 90, 12],
 //!     [24, 80, 15],
-//!     [24, 85, 16], // dearer and heavier than motor 1
+//!     [24, 85, 16], // costs more than motor 1 and is heavier
 //!     [12, 50, 5],  // every motor of 24 volts comes before it
 //! ];
-//! let answers = table.query(3, motors.as_flattened(), wish, 0, Engine::Auto)?;
+//! let answers = table.query(wish).run(&motors)?;
 //!
 //! assert_eq!(answers.kept().collect::<Vec<_>>(), [0, 1]);
 //! assert_eq!(answers.get(2), Some(Answer::Dropped { by: 1 }));
@@ -34,34 +35,86 @@
 //! # }
 //! ```
 //!
+//! Before you place one wish after another, read about equal distance at [`Table::between`].
+//!
+//! # For whom, and for whom not
+//!
+//! For catalogue software on x86-64 Linux. There is no archive for other machines. A row is 1 to 8 whole numbers of 32
+//! bits: prices in cents, brands by a number. A query takes at most 1,024 rows, and a table at most 128 records.
+//!
+//! Query more rows in parts, then the kept rows together. That keeps what one query over all of them would keep, as
+//! long as the kept rows of the parts are 1,024 at most.
+//!
+//! ```
+//! use finialbasil::{Table, MOST_ROWS};
+//!
+//! let mut table = Table::new();
+//! let (price, weight) = (table.lowest(0)?, table.lowest(1)?);
+//! let wish = table.pareto(price, weight)?;
+//! let catalogue: Vec<[i32; 2]> = (0..3_000).map(|i: i32| [i, (i - 2).abs()]).collect();
+//!
+//! let mut best = Vec::new();
+//! for part in catalogue.chunks(MOST_ROWS) {
+//!     best.extend(table.query(wish).run(part)?.kept().map(|row| part[row]));
+//! }
+//! let answers = table.query(wish).run(&best)?;
+//! let kept: Vec<[i32; 2]> = answers.kept().map(|row| best[row]).collect();
+//! assert_eq!(kept, [[0, 2], [1, 1], [2, 0]]);
+//! # Ok::<(), finialbasil::Refusal>(())
+//! ```
+//!
 //! # Two ways to the same calls
 //!
-//! - A [`Table`] is built here, and its methods take the [`Term`]s that the builder gave.
-//! - Bytes from elsewhere, a file or another program, go to [`check`], [`compare`], [`perfect`], [`query`] and
-//!   [`query_into`] as they are, with record numbers for terms.
+//! - A [`Table`] is built here or read by [`Table::from_bytes`], and its methods take its [`Term`]s.
+//! - Bytes from elsewhere, a file or another program, go to [`check`], [`compare`], [`perfect`] and [`query`] as they
+//!   are, with record numbers for terms.
 //!
-//! Nothing needs to be checked beforehand: each call vets everything it is handed, whatever the bytes and numbers are,
-//! and gives a [`Refusal`] for what it turns down. Nothing in this crate panics. The calls keep nothing, may run on
-//! several threads at once, and ran within 1 MiB of stack wherever that was measured.
+//! # Refusals
+//!
+//! Nothing needs to be checked beforehand. Each call vets everything it is handed, whatever the bytes and numbers are,
+//! and gives a [`Refusal`] for what it turns down: a number, a word, the place, and a sentence that says what to do.
+//! Nothing in this crate panics. The calls keep nothing, may run on several threads at once, and ran within 1 MiB of
+//! stack wherever that was measured.
+//!
+//! ```
+//! use finialbasil::Table;
+//!
+//! let mut table = Table::new();
+//! let refusal = table.between(0, 16, 10).unwrap_err();
+//! assert_eq!(
+//!     refusal.to_string(),
+//!     "record 0: the low bound is above the up bound; give the lower bound first (refusal 12, BOUNDS)"
+//! );
+//! ```
 //!
 //! # Linking
 //!
-//! The crate links `libfinialbasil.a`, on x86-64 Linux: from the folder that the environment variable
-//! `FINIALBASIL_LIB_DIR` names, else from the folder `lib` beside its `Cargo.toml`, else from `target/staticlib` of the
-//! repository.
+//! The crate links `libfinialbasil.a`. If the environment variable `FINIALBASIL_LIB_DIR` is set, it names the folder of
+//! the archive. Else that is the folder `lib` beside `Cargo.toml`, as in a delivery, or `target/staticlib` of the
+//! repository. The crate is `no_std` with `alloc`.
+#![no_std]
 #![deny(missing_docs, unsafe_code)]
 #![forbid(unsafe_op_in_unsafe_fn)]
 
+extern crate alloc;
+
+mod answers;
 mod calls;
+mod columns;
 pub mod ffi;
 mod lent;
+mod query;
+mod record;
 mod refusal;
 mod replies;
 mod table;
 
-pub use calls::{check, compare, perfect, query, query_into, Engine, BY_PARTS_FROM};
-pub use refusal::{Reason, Refusal};
-pub use replies::{Answer, Answers, Columns, Outcome, Summary};
+pub use answers::{Answer, Answers, AnswersIntoIter, AnswersIter};
+pub use calls::{check, compare, perfect};
+pub use columns::{Columns, ColumnsIter};
+pub use query::{query, Engine, Query, Rows, BY_PARTS_FROM};
+pub use refusal::{Place, Reason, Refusal};
+pub use replies::{Mark, Outcome, Summary};
 pub use table::{Table, Term};
 
 /// Bytes of a record.

@@ -1,6 +1,6 @@
-//! Document 01's cases and limits, built with the builder and answered by each engine.
+//! The cases of SPECIFICATION, "Worked cases", and its limits: built with the builder, answered by each engine.
 use finialbasil::{
-    compare, perfect, query, query_into, Answer, Engine, Outcome, Refusal, Table, Term,
+    compare, perfect, query, Answer, Columns, Engine, Mark, Outcome, Refusal, Rows, Table, Term,
 };
 use finialbasil::{BY_PARTS_FROM, MOST_ROWS};
 
@@ -33,23 +33,27 @@ fn answers(table: &Table, columns: usize, rows: &[i32], term: Term, group: u8, e
     let kept: Vec<usize> = (0..expected.len())
         .filter(|row| usize::from(expected[*row]) == *row)
         .collect();
-    let bytes = table.as_bytes();
-    let number = term.record();
+    let rows = Rows::flat(rows, columns);
+    let group = Columns::from_bits(group);
     for engine in ENGINES {
-        let got = table.query(columns, rows, term, group, engine).unwrap();
+        let by_methods = table.query(term).group_by(group).engine(engine);
+        let got = by_methods.run(rows).unwrap();
         assert_eq!(got.entries(), expected, "{engine:?}");
         assert_eq!(got.len(), expected.len());
         assert_eq!(got.kept_count(), kept.len(), "{engine:?}");
         assert_eq!(got.kept().collect::<Vec<_>>(), kept, "{engine:?}");
-        assert_eq!(query(bytes, columns, rows, number, group, engine), Ok(got));
+        let over_bytes = query(table.as_bytes(), term.record())
+            .group_by(group)
+            .engine(engine);
+        assert_eq!(over_bytes.run(rows), Ok(got));
 
         // Two entries more than rows, which keep their contents.
         let mut buffer = vec![0xa5a5; expected.len() + 2];
-        let count = table.query_into(columns, rows, term, group, engine, &mut buffer);
+        let count = by_methods.run_into(rows, &mut buffer);
         assert_eq!(count, Ok(kept.len()), "{engine:?}");
         assert_eq!(buffer, [expected, &[0xa5a5; 2]].concat(), "{engine:?}");
         let mut other = vec![0xa5a5; expected.len() + 2];
-        let count = query_into(bytes, columns, rows, number, group, engine, &mut other);
+        let count = over_bytes.run_into(rows, &mut other);
         assert_eq!((count, other), (Ok(kept.len()), buffer), "{engine:?}");
     }
 }
@@ -89,7 +93,7 @@ fn what_the_check_says() -> Result<(), Refusal> {
 #[test]
 fn t1_over_v_row_by_row() -> Result<(), Refusal> {
     let (table, [.., top]) = t1()?;
-    let got = table.query(3, V.as_flattened(), top, 0, Engine::default())?;
+    let got = table.query(top).run(&V)?;
     let by = |by| Answer::Dropped { by };
     let kept = Answer::Kept;
     let expected = [kept, by(0), kept, by(2), kept, by(4), by(2)];
@@ -153,8 +157,8 @@ fn beaten_under_both_placings_by_different_rows() -> Result<(), Refusal> {
 #[test]
 fn distances_do_not_wrap() -> Result<(), Refusal> {
     let mut table = Table::new();
-    let top = table.around(0, 2147483647)?;
-    answers(&table, 1, &[-2147483648, 0], top, 0, &[1, 1]);
+    let top = table.around(0, 2_147_483_647)?;
+    answers(&table, 1, &[-2_147_483_648, 0], top, 0, &[1, 1]);
     Ok(())
 }
 
@@ -163,9 +167,10 @@ fn no_rows() -> Result<(), Refusal> {
     let (table, [.., top]) = t1()?;
     answers(&table, 3, &[], top, 0, &[]);
     for engine in ENGINES {
-        let got = table.query(3, &[], top, 0, engine)?;
+        let (query, none) = (table.query(top).engine(engine), Rows::flat(&[], 3));
+        let got = query.run(none)?;
         assert!(got.is_empty() && got.kept().next().is_none());
-        assert_eq!(table.query_into(3, &[], top, 0, engine, &mut []), Ok(0));
+        assert_eq!(query.run_into(none, &mut []), Ok(0));
     }
     Ok(())
 }
@@ -182,12 +187,12 @@ fn rows_to_the_limit() -> Result<(), Refusal> {
     answers(&table, 1, &falling, top, 1, &own);
     // Around the change of the engine.
     for rows in [1, BY_PARTS_FROM - 1, BY_PARTS_FROM, BY_PARTS_FROM + 1] {
-        let last = rows as u16 - 1;
+        let last = u16::try_from(rows - 1).unwrap();
         answers(&table, 1, &falling[..rows], top, 0, &vec![last; rows]);
     }
     for engine in ENGINES {
-        let refusal = table.query(1, &[0; 1025], top, 0, engine).unwrap_err();
-        assert_eq!(refusal.to_string(), "refused 15 ROWS");
+        let got = table.query(top).engine(engine).run(&[[0]; 1025]);
+        assert_eq!(got.unwrap_err().reason().to_string(), "15 ROWS");
     }
     Ok(())
 }
@@ -221,10 +226,9 @@ fn comparing() -> Result<(), Refusal> {
         (top, 6, 6, Outcome::Same),
     ];
     for (term, first, second, expected) in cases {
-        let got = table.compare(3, term, &V[first], &V[second])?;
+        let got = table.compare(term, &V[first], &V[second])?;
         assert_eq!(got, expected, "{first} {second}");
-        let number = term.record();
-        let got = compare(table.as_bytes(), 3, number, &V[first], &V[second])?;
+        let got = compare(table.as_bytes(), term.record(), &V[first], &V[second])?;
         assert_eq!(got, expected, "{first} {second}");
     }
     Ok(())
@@ -247,9 +251,11 @@ fn perfect_rows() -> Result<(), Refusal> {
         (top, [23, i32::MAX], false),
     ];
     for (term, row, expected) in cases {
-        assert_eq!(table.perfect(2, term, &row), Ok(expected), "{row:?}");
-        let got = perfect(table.as_bytes(), 2, term.record(), &row);
-        assert_eq!(got, Ok(expected), "{row:?}");
+        let mark = if expected { Mark::Yes } else { Mark::No };
+        assert_eq!(table.perfect(term, &row), Ok(mark), "{row:?}");
+        let got = perfect(table.as_bytes(), term.record(), &row);
+        assert_eq!(got, Ok(mark), "{row:?}");
+        assert_eq!(mark.is_perfect(), expected);
     }
     Ok(())
 }

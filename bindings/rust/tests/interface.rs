@@ -49,6 +49,15 @@ fn null_with_length_0_is_an_empty_slice() {
     }
 }
 
+/// The safe function takes the column count from the row, so that only here the two can differ.
+#[test]
+fn a_single_row_not_of_the_count() {
+    let lowest = [1u8, 0, 0, 0, 0, 0, 0, 0, 0, 0, 0, 0];
+    // SAFETY: table and row are arrays with their lengths.
+    let reply = unsafe { ffi::fnb_perfect(lowest.as_ptr(), 12, 2, 0, [1].as_ptr(), 1) };
+    assert_eq!((reply.refusal, reply.place, reply.value), (15, NO_PLACE, 0));
+}
+
 #[test]
 fn everything_may_go_to_other_threads() {
     fn shared<T: Send + Sync + 'static>() {}
@@ -56,4 +65,7 @@ fn everything_may_go_to_other_threads() {
     shared::<finialbasil::Term>();
     shared::<finialbasil::Answers>();
     shared::<finialbasil::Refusal>();
+    shared::<finialbasil::Columns>();
+    shared::<finialbasil::Query<'static>>();
+    shared::<finialbasil::Rows<'static>>();
 }

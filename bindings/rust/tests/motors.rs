@@ -4,7 +4,7 @@
 mod motors;
 
 /// Motors 0 and 1 are unranked: one is lighter, the other cheaper. Motor 1 is cheaper and lighter than motor 2, motor 0
-/// is dearer than it. Motor 3 is 12 volts away, and of the two kept motors 0 has the lowest number.
+/// costs more than it. Motor 3 is 12 volts away, and of the two kept motors 0 has the lowest number.
 #[test]
 fn the_example_prints_this() {
     let expected = "2 of 4 kept\n\

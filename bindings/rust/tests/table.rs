@@ -1,5 +1,5 @@
-//! The builder: the bytes of each kind by hand from document 01's layout, and what each method refuses.
-use finialbasil::{Engine, Reason, Refusal, Table, Term};
+//! The builder: the bytes of each kind by hand from SPECIFICATION, "The table", and what each method refuses.
+use finialbasil::{Columns, Engine, Mark, Reason, Refusal, Table, Term};
 
 type Built = Result<Term, Refusal>;
 
@@ -31,7 +31,7 @@ fn refuses(method: impl Fn(&mut Table) -> Built, reason: Reason, place: Option<u
 
 fn refused<T: std::fmt::Debug>(got: Result<T, Refusal>, reason: Reason, place: Option<usize>) {
     let refusal = got.unwrap_err();
-    assert_eq!((refusal.reason(), refusal.place()), (reason, place));
+    assert_eq!((refusal.reason(), refusal.record()), (reason, place));
 }
 
 #[test]
@@ -92,15 +92,15 @@ fn no_values_at_all() {
 #[test]
 fn compound_terms() -> Result<(), Refusal> {
     let mut table = Table::new();
-    let a = table.pos(0, &[5])?; // records 0 and 1
-    let b = table.lowest(0)?;
-    let c = table.both(a, b)?;
-    let d = table.highest(1)?;
-    let e = table.pareto(d, c)?;
-    let f = table.dual(e)?;
-    let g = table.any(2)?;
-    let h = table.prior(f, g)?;
-    let numbers = [a, b, c, d, e, f, g, h].map(Term::record);
+    let pos = table.pos(0, &[5])?; // records 0 and 1
+    let low = table.lowest(0)?;
+    let both = table.both(pos, low)?;
+    let high = table.highest(1)?;
+    let equally = table.pareto(high, both)?;
+    let dual = table.dual(equally)?;
+    let any = table.any(2)?;
+    let top = table.prior(dual, any)?;
+    let numbers = [pos, low, both, high, equally, dual, any, top].map(Term::record);
     assert_eq!(numbers, [0, 2, 3, 4, 5, 6, 7, 8]);
     let compounds = [
         (3, [18, 0, 2, 0, 0, 0, 0, 0, 0, 0, 0, 0]),
@@ -251,23 +251,19 @@ fn terms_of_another_table_in_calls() -> Result<(), Refusal> {
     let (mut table, mut other) = (Table::new(), Table::new());
     let (own, foreign) = (table.lowest(0)?, other.lowest(0)?);
     assert_ne!(own, foreign);
-    refused(table.compare(1, foreign, &[1], &[2]), Reason::Term, None);
-    refused(table.compare(1, foreign, &[1], &[]), Reason::Rows, None);
-    refused(table.perfect(1, foreign, &[1]), Reason::Term, None);
+    refused(table.compare(foreign, &[1], &[2]), Reason::Term, None);
+    refused(table.compare(foreign, &[1], &[]), Reason::Rows, None);
+    refused(table.perfect(foreign, &[1]), Reason::Term, None);
     for engine in [Engine::Auto, Engine::Direct, Engine::ByParts] {
-        refused(
-            table.query(1, &[1], foreign, 255, engine),
-            Reason::Term,
-            None,
-        );
+        // Bits above the column count: GROUP would come next.
+        let all = Columns::from_bits(255);
+        let asked = table.query(foreign).group_by(all).engine(engine);
+        refused(asked.run(&[[1]]), Reason::Term, None);
         let mut answers = [7];
-        let got = table.query_into(1, &[1], foreign, 255, engine, &mut answers);
-        refused(got, Reason::Term, None);
+        refused(asked.run_into(&[[1]], &mut answers), Reason::Term, None);
         assert_eq!(answers, [7]);
-        assert_eq!(
-            table.query_into(1, &[1], own, 1, engine, &mut answers),
-            Ok(1)
-        );
+        let asked = table.query(own).group_by([0]).engine(engine);
+        assert_eq!(asked.run_into(&[[1]], &mut answers), Ok(1));
         assert_eq!(answers, [0]);
     }
     Ok(())
@@ -278,7 +274,11 @@ fn terms_of_another_table_in_calls() -> Result<(), Refusal> {
 fn more_values_than_records() {
     refuses(|t| t.pos(0, &[1; 127]), Reason::Crowd, Some(17));
     refuses(|t| t.pos(0, &[1; 128]), Reason::Length, None);
-    refuses(|t| t.explicit(0, &[(1, 2); 100_000]), Reason::Length, None);
+    refuses(
+        |t| t.explicit(0, &vec![(1, 2); 100_000]),
+        Reason::Length,
+        None,
+    );
 }
 
 #[test]
@@ -290,7 +290,7 @@ fn records_to_the_limit() -> Result<(), Refusal> {
     }
     // Only record 127 is left; a term with a value needs one more.
     refused(table.pos(0, &[1]), Reason::Length, None);
-    refused(table.pos(0, &[1; 100_000]), Reason::Length, None);
+    refused(table.pos(0, &vec![1; 100_000]), Reason::Length, None);
     top = table.dual(top)?;
     assert_eq!((table.records(), table.as_bytes().len()), (128, 1536));
     refused(table.dual(top), Reason::Length, None);
@@ -298,6 +298,141 @@ fn records_to_the_limit() -> Result<(), Refusal> {
     assert_eq!((table.top(), table.records()), (Some(top), 128));
     assert_eq!(table.check(1)?.top, 127);
     // 127 DUALs: an odd number.
-    assert_eq!(table.perfect(1, top, &[i32::MAX]), Ok(true));
+    assert_eq!(table.perfect(top, &[i32::MAX]), Ok(Mark::Yes));
+    Ok(())
+}
+
+/// A table with every kind and every role; its terms in record order.
+fn every_kind() -> Result<(Table, Vec<Term>), Refusal> {
+    let mut table = Table::new();
+    let mut terms = vec![
+        table.lowest(0)?,
+        table.highest(1)?,
+        table.around(2, -24)?,
+        table.between(3, 10, 16)?,
+        table.pos(4, &[7])?,
+        table.neg(4, &[-9])?,
+        table.pos_neg(5, &[1, 2], &[3])?,
+        table.pos_pos(5, &[4], &[5])?,
+        table.explicit(6, &[(30, 20), (20, 10)])?,
+        table.any(7)?,
+    ];
+    terms.push(table.pareto(terms[0], terms[1])?);
+    terms.push(table.prior(terms[2], terms[3])?);
+    terms.push(table.both(terms[4], terms[5])?);
+    terms.push(table.both(terms[6], terms[7])?);
+    terms.push(table.dual(terms[8])?);
+    terms.push(table.pareto(terms[10], terms[11])?);
+    terms.push(table.pareto(terms[12], terms[13])?);
+    terms.push(table.prior(terms[14], terms[9])?);
+    terms.push(table.prior(terms[15], terms[16])?);
+    terms.push(table.pareto(terms[17], terms[18])?);
+    Ok((table, terms))
+}
+
+#[test]
+fn from_bytes_and_back() -> Result<(), Refusal> {
+    let (table, terms) = every_kind()?;
+    let read = Table::from_bytes(table.as_bytes())?;
+    assert_eq!(read.as_bytes(), table.as_bytes());
+    assert_eq!(read.records(), table.records());
+    assert_eq!(read.check(8), table.check(8));
+    assert_eq!(read.to_string(), table.to_string());
+
+    // The same numbers, and terms of the read table alone.
+    let numbers = |table: &Table| table.terms().map(Term::record).collect::<Vec<_>>();
+    let expected: Vec<usize> = terms.iter().map(|term| term.record()).collect();
+    assert_eq!(numbers(&table), expected);
+    assert_eq!(numbers(&read), expected);
+    assert_eq!(table.terms().collect::<Vec<_>>(), terms);
+    assert_ne!(read.terms().collect::<Vec<_>>(), terms);
+    assert_eq!(read.top(), read.terms().last());
+    assert_eq!(read.top().map(Term::record), Some(28));
+    for record in 0..40 {
+        let expected = expected.contains(&record).then_some(record);
+        assert_eq!(read.term(record).map(Term::record), expected);
+    }
+    assert_eq!(read.term(usize::MAX), None);
+    refused(read.perfect(terms[0], &[0; 8]), Reason::Term, None);
+    let lowest = read.term(0).unwrap();
+    assert_eq!(read.perfect(lowest, &[i32::MIN; 8]), Ok(Mark::Yes));
+    Ok(())
+}
+
+#[test]
+fn a_read_table_can_be_built_on() -> Result<(), Refusal> {
+    let mut stored = Table::new();
+    stored.pos(0, &[5])?; // records 0 and 1
+    let mut table = Table::from_bytes(stored.as_bytes())?;
+    let (brand, price) = (table.top().unwrap(), table.lowest(1)?);
+    let wish = table.prior(brand, price)?;
+    assert_eq!((brand.record(), price.record(), wish.record()), (0, 2, 3));
+    assert_eq!((table.top(), table.check(2)?.top), (Some(wish), 3));
+    let answers = table.query(wish).run(&[[5, 9], [5, 8], [4, 1]])?;
+    assert_eq!(answers.entries(), [1, 1, 1]);
+    Ok(())
+}
+
+/// What the check refuses with eight columns, and nothing else: fewer columns are the caller's to name.
+#[test]
+fn bytes_that_are_no_table() -> Result<(), Refusal> {
+    refused(Table::from_bytes(&[]), Reason::Length, None);
+    refused(Table::from_bytes(&[1; 13]), Reason::Length, None);
+    let column_7 = [1, 7, 0, 0, 0, 0, 0, 0, 0, 0, 0, 0];
+    let column_8 = [1, 8, 0, 0, 0, 0, 0, 0, 0, 0, 0, 0];
+    let table = Table::from_bytes(&column_7)?;
+    assert!(table.check(8).is_ok());
+    refused(table.check(7), Reason::Column, Some(0));
+    refused(Table::from_bytes(&column_8), Reason::Column, Some(0));
+    let loose = [column_7, column_7].concat();
+    refused(Table::from_bytes(&loose), Reason::Loose, Some(0));
+    Ok(())
+}
+
+#[test]
+fn every_kind_in_words() -> Result<(), Refusal> {
+    let (table, _) = every_kind()?;
+    let expected = "\
+0: LOWEST column 0, the lower the better
+1: HIGHEST column 1, the higher the better
+2: AROUND column 2, wish -24, the nearer the better
+3: BETWEEN column 3, 10 to 16, the nearer the better
+4: POS column 4, favourites first
+5:   favourite 7
+6: NEG column 4, disliked values last
+7:   disliked -9
+8: POS/NEG column 5, favourites first, disliked values last
+9:   favourite 1
+10:   favourite 2
+11:   disliked 3
+12: POS/POS column 5, favourites first, then second choices
+13:   favourite 4
+14:   second choice 5
+15: EXPLICIT column 6, ranked by edges
+16:   edge: 20 is better than 30
+17:   edge: 10 is better than 20
+18: ANY column 7, nothing is better
+19: PARETO of 0 and 1, ranking equally
+20: PRIOR: 2 first, then 3
+21: BOTH of 4 and 6, better only if better in both
+22: BOTH of 8 and 12, better only if better in both
+23: DUAL of 15, better and worse exchanged
+24: PARETO of 19 and 20, ranking equally
+25: PARETO of 21 and 22, ranking equally
+26: PRIOR: 23 first, then 18
+27: PRIOR: 24 first, then 25
+28: PARETO of 26 and 27, ranking equally (the top)";
+    assert_eq!(table.to_string(), expected);
+    assert_eq!(Table::new().to_string(), "");
+    Ok(())
+}
+
+/// The top is the last term, not the last record.
+#[test]
+fn a_top_with_values_in_words() -> Result<(), Refusal> {
+    let mut table = Table::new();
+    table.pos(0, &[i32::MIN])?;
+    let expected = "0: POS column 0, favourites first (the top)\n1:   favourite -2147483648";
+    assert_eq!(table.to_string(), expected);
     Ok(())
 }
