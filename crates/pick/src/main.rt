@@ -1,4 +1,4 @@
-// The pick program (document 01): `prefs.bin` and `rows.bin` of the working directory.
+// The program pick (SPECIFICATION, "The program pick"), on `prefs.bin` and `rows.bin` of the working directory.
 fn main() {
     pick_files::run(b"prefs.bin", b"rows.bin");
 }

@@ -3,27 +3,37 @@ ghost use Prim.Native.Nat.{_≤_};
 ghost use lib.ListN.{length};
 ghost use Rattle.io.specs.Counts.{Counts};
 
+// The start of a file: how many bytes were read, and whether the system calls the file missing.
+pub struct Start {
+    pub missing: bool,
+    pub bytes: usize,
+}
+
 // What one read gave: how many bytes, none at the end of the file; or that it failed.
 struct Got {
     failed: bool,
     bytes: usize,
 }
 
-// Reads the start of a file, as far as the buffer goes, and returns how many bytes came. A missing file reads as empty. One
-// that is there but cannot be read answers as an empty one, and a line on standard error names it.
-pub fn read_file(path: &[u8], buf: &mut [u8]) -> usize
-    ensures { λ r. ⌜ Counts r (now (buf .exit)) ⌝ }
+// Reads the start of a file, as far as the buffer goes. A missing file reads as empty. One that is there but cannot be
+// read counts as empty, and a line on standard error names it.
+pub fn read_file(path: &[u8], buf: &mut [u8]) -> Start
+    ensures { λ r. ⌜ Counts (r .bytes) (now (buf .exit)) ⌝ }
 {
     let fd = os::open_read(path);
     if fd < 0 {
-        if os::errno() != libc::ENOENT {
+        let missing = os::errno() == libc::ENOENT;
+        if !missing {
             os::fail(path);
         }
-        return 0;
+        return Start { missing, bytes: 0 };
     }
     let n = read_open(fd, path, buf);
     libc::close(fd);
-    n
+    Start {
+        missing: false,
+        bytes: n,
+    }
 }
 
 // Reads an open file until the buffer is full or the file ends.

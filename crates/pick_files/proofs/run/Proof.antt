@@ -17,6 +17,9 @@ slice-aggregate-read-file-2 c = search needs
 read-file-requires-2 : tie.Need-read-file-requires-2
 read-file-requires-2 c κs = search needs
 
+say-missing-requires : tie.Need-say-missing-requires
+say-missing-requires c κs = search needs
+
 array-share-prefix-table : tie.Need-array-share-prefix-table
 array-share-prefix-table c = search needs
 
@@ -61,6 +64,7 @@ run-spec =
     read-file-requires
     slice-aggregate-read-file-2
     read-file-requires-2
+    say-missing-requires
     array-share-prefix-table
     slice-aggregate-pick-text
     array-share-prefix-bytes
