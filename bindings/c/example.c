@@ -5,7 +5,6 @@
 #include <stdio.h>
 
 enum { VOLTS, CENTS, GRAMS, COLUMNS };
-enum { LOWEST = 1, AROUND = 3, PARETO = 16, PRIOR = 17 };
 enum { RECORDS = 5, MOTORS = 8 };
 
 static const int32_t motors[MOTORS * COLUMNS] = {
@@ -19,30 +18,17 @@ static const int32_t motors[MOTORS * COLUMNS] = {
     24, 10400, 520, /* 7 */
 };
 
-/* Record k of a table. u and v are written low byte first. */
-static void put(uint8_t *table, int k, int kind, int p, int q, int32_t u, int32_t v) {
-    uint8_t *record = table + FNB_RECORD_BYTES * k;
-    record[0] = (uint8_t)kind;
-    record[1] = (uint8_t)p;
-    record[2] = (uint8_t)q;
-    record[3] = 0;
-    for (int i = 0; i < 4; i++) {
-        record[4 + i] = (uint8_t)((uint32_t)u >> (8 * i));
-        record[8 + i] = (uint8_t)((uint32_t)v >> (8 * i));
-    }
-}
-
 int main(void) {
-    uint8_t table[RECORDS * FNB_RECORD_BYTES];
-    put(table, 0, AROUND, VOLTS, 0, 24, 0);
-    put(table, 1, LOWEST, CENTS, 0, 0, 0);
-    put(table, 2, LOWEST, GRAMS, 0, 0, 0);
-    put(table, 3, PARETO, 1, 2, 0, 0);
-    put(table, 4, PRIOR, 0, 3, 0, 0);
+    uint8_t table[RECORDS * FNB_RECORD_BYTES], *at = table;
+    at = fnb_put_around(at, VOLTS, 24); /* 0 */
+    at = fnb_put_lowest(at, CENTS);     /* 1 */
+    at = fnb_put_lowest(at, GRAMS);     /* 2 */
+    at = fnb_put_pareto(at, 1, 2);      /* 3: price and weight equally */
+    at = fnb_put_prior(at, 0, 3);       /* 4: volts first; the top */
 
     fnb_check_reply wish = fnb_check(table, sizeof table, COLUMNS);
     if (wish.refusal != FNB_ACCEPTED) {
-        printf("the table is refused: %u, record %u\n", (unsigned)wish.refusal, (unsigned)wish.place);
+        printf("the table is refused: %s, record %u\n", fnb_refusal_word(wish.refusal), (unsigned)wish.place);
         return 1;
     }
     printf("%u records, top %u, %u columns\n", (unsigned)wish.records, (unsigned)wish.top, (unsigned)wish.column_count);
@@ -51,7 +37,7 @@ int main(void) {
     fnb_reply query = fnb_query_by_parts(table, sizeof table, COLUMNS, motors, MOTORS * COLUMNS, wish.top, 0, answers,
                                          MOTORS);
     if (query.refusal != FNB_ACCEPTED) {
-        printf("the query is refused: %u\n", (unsigned)query.refusal);
+        printf("the query is refused: %s\n", fnb_refusal_word(query.refusal));
         return 1;
     }
     printf("%u of %d motors kept\n", (unsigned)query.value, MOTORS);

@@ -1,8 +1,15 @@
-/* Finialbasil: preference selection over rows of whole numbers, for C11 and C++17 on x86-64 Linux.
+/* Finialbasil 0.2.0: preference selection over rows of whole numbers, for C11 and C++17 on x86-64 Linux.
  *
- * A table of wishes says when one row is better than another. A query keeps the rows that no other row betters, and
- * names for each dropped row a kept row that is better. Link with libfinialbasil.a; there is nothing to configure. The
- * usual order of calls is fnb_check once for a table, then fnb_query_by_parts for its top.
+ * A table of wishes says when one row is better than another. A query keeps a row exactly when no row of its group is
+ * better, and names for each dropped row the lowest-numbered kept row that is better. Link with libfinialbasil.a or
+ * libfinialbasil.so; there is nothing to configure. The usual order of calls is fnb_check once for a table, then
+ * fnb_query_by_parts for its top.
+ *
+ * This header reads alone. The same rules with an example for each are in SPECIFICATION.md of the delivery, which is
+ * cited by the titles of its sections: SPECIFICATION, "The table".
+ *
+ * Names and numbers that a version has delivered stay as they are. Later versions may add kinds, roles and refusals: a
+ * caller that tells refusals apart needs a default for the numbers that it does not know.
  *
  * ---- The table
  *
@@ -25,32 +32,46 @@
  * better). POS takes role 1; NEG 2; POS/NEG 1 and 2; POS/POS 1 and 3; EXPLICIT 4; all others none.
  *
  * Parts are record numbers of terms before the compound. Each term but the last term of the table is a part exactly
- * once; that last one is the top. A base term reads one column; the columns of a compound are those of its parts
- * together.
+ * once; that last one is the top. A base term reads one column. A compound term reads the columns of all its parts.
  *
- * "Around 24 volts (column 0), then price and weight (columns 1 and 2) equally", as bytes:
+ * The builders below (fnb_put_..) write one record each. Example: "around 24 volts (column 0), then price and weight
+ * (columns 1 and 2) equally", asked of four motors.
  *
- *   Record 0   AROUND column 0, wish 24    3  0 0 0   24 0 0 0   0 0 0 0
- *   Record 1   LOWEST column 1             1  1 0 0    0 0 0 0   0 0 0 0
- *   Record 2   LOWEST column 2             1  2 0 0    0 0 0 0   0 0 0 0
- *   Record 3   PARETO 1 2                 16  1 2 0    0 0 0 0   0 0 0 0
- *   Record 4   PRIOR 0 3, the top         17  0 3 0    0 0 0 0   0 0 0 0
+ *     uint8_t table[5 * FNB_RECORD_BYTES], *at = table;
+ *     at = fnb_put_around(at, 0, 24);  // record 0: volts
+ *     at = fnb_put_lowest(at, 1);      // record 1: price
+ *     at = fnb_put_lowest(at, 2);      // record 2: weight
+ *     at = fnb_put_pareto(at, 1, 2);   // record 3: price and weight equally
+ *     at = fnb_put_prior(at, 0, 3);    // record 4: volts first; the top
+ *     assert(at == table + sizeof table);
+ *
+ *     const int32_t motors[4][3] = {{24, 90, 12}, {24, 80, 15}, {24, 85, 16}, {12, 50, 5}};
+ *     uint16_t answers[4];
+ *     fnb_reply reply = fnb_query_by_parts(table, sizeof table, 3, motors[0], 4 * 3, 4, 0, answers, 4);
+ *     assert(reply.refusal == FNB_ACCEPTED && reply.value == 2);  // 2 motors are kept
+ *     assert(answers[0] == 0 && answers[1] == 1);                 // motors 0 and 1
+ *     assert(answers[2] == 1);  // motor 2 is dropped: motor 1 costs less and weighs less
+ *     assert(answers[3] == 0);  // motor 3 is dropped: motor 0 is nearer to 24 volts
  *
  * ---- When a row is better
  *
  * A column holds any signed 32-bit number. Of two rows, under a base term on a column:
  *
- *   LOWEST, HIGHEST   the lower number is better; the higher one is.
+ *   LOWEST            the lower number is better.
+ *   HIGHEST           the higher number is better.
  *   AROUND            the number at the smaller distance from the wish is better. Distances are exact differences, up
- *                     to 4,294,967,295.
- *   BETWEEN           the number at the smaller distance from its nearer bound is better; from low to up it is 0.
- *   POS               a favourite is better than every number that is none.
- *   NEG               a number that is not disliked is better than every disliked one.
+ *                     to 4,294,967,295. Different numbers at the same distance are not equal: see "Neither better
+ *                     nor equal" below.
+ *   BETWEEN           the number at the smaller distance is better. The distance of a number from low to up is 0; that
+ *                     of any other number is its difference to the nearer bound. Different numbers at the same
+ *                     distance, such as those from low to up, are not equal: see below.
+ *   POS               a favourite is better than every number that is not a favourite. Different favourites are not
+ *                     equal, nor are different others: see below.
+ *   NEG               a number that is not disliked is better than every disliked number.
  *   POS/NEG           favourites are best, then all others, then disliked numbers.
  *   POS/POS           favourites are best, then second choices, then all others.
- *   EXPLICIT          a number is better than those from which a path of one edge or more leads to it, each edge from
- *                     worse to better; a number in some edge is better than every number in none. With no edges nothing
- *                     is better.
+ *   EXPLICIT          y is better than x if a path of one edge or more leads from x to y, each edge from worse to
+ *                     better; or if y is in some edge and x is in no edge. With no edges nothing is better.
  *   ANY               nothing is better.
  *
  * Under a compound term:
@@ -62,10 +83,20 @@
  *   BOTH              a row is better if it is better in both parts, which read the same columns.
  *   DUAL              the part turned round: a row is better where it is worse in the part.
  *
- * Equal means the same number. Different numbers of which neither is better, such as 23 and 25 under AROUND 24 or two
- * favourites under POS, are unranked and not equal: a PRIOR with that term as its left part does not go on to the right
- * one, and under a PARETO with that term as a part neither row is better. Every term orders rows strictly: no row is
- * better than itself, and better than better is better.
+ * Every term orders rows strictly: no row is better than itself, and if x is better than y and y is better than z, then
+ * x is better than z.
+ *
+ * ---- Neither better nor equal
+ *
+ * Equal means the same number. 23 and 25 under AROUND 24, 12 and 16 under BETWEEN 10 and 16, and two favourites under
+ * POS are different numbers, and neither is better: they are unranked. A PRIOR with such a term as its left part does
+ * not go on to its right part, and under a PARETO with such a term as a part neither row is better. So "10 to 16 bar,
+ * then price" keeps an expensive valve for 12 bar beside a cheap valve for 16 bar.
+ *
+ * Where the same distance is to count as equal, store the distance as a column of its own and ask LOWEST of it: a
+ * column that holds 0 for 10 to 16 bar, and else the difference to the nearer bound. LOWEST of that column, then price,
+ * keeps the cheap valve alone. For POS, NEG, POS/NEG and POS/POS store the class instead: 0 for the best numbers, 1 for
+ * the next, 2 for the last. SPECIFICATION, "When a row is better".
  *
  * ---- What a call refuses
  *
@@ -73,8 +104,7 @@
  *   1       WIDTH    column count not 1 to 8                                                              none
  *   2       LENGTH   table bytes 0, over 1,536, or not a multiple of 12                                   none
  *   3       KIND     kind not in the list                                                                 the record
- *   4       FILLER   a field not filled for this kind (for kind 0, this role; an unknown role counts
- *                    as not 4) is not zero                                                                the record
+ *   4       FILLER   a field not filled for this kind (for kind 0, this role) is not zero                 the record
  *   5       COLUMN   base term's column not below the count                                               the record
  *   6       PART     part not below the record's own number, or not a term                                the record
  *   7       REUSED   part already a part of an earlier term, or both parts the same                       the record
@@ -92,20 +122,22 @@
  *   18      SHORT    answer buffer with fewer entries than there are rows                                 none
  *
  * Order: 1, 2, then records from 0 upward, each judged for 3 to 13 in number order from itself and the records before
- * it, then 14 (lowest such record), then 15 to 18. The reply is the first refusal in this order; a call skips the
- * numbers on inputs that it does not take. No refusal writes anything. Each call vets all its inputs, the table too,
+ * it, then 14 (lowest such record), then 15 to 18. The reply is the first refusal in this order; a call skips
+ * refusals about inputs it does not have. No refusal writes anything. Each call checks all its inputs, the table too,
  * and relies on no earlier call.
+ *
+ * FILLER of a value goes by its own role: v may be filled in role 4 alone, and an unknown role counts as not 4.
  *
  * ---- What every call asks of its caller
  *
  *   - A length counts elements, not bytes: that many can be read behind the pointer, and behind `answers` written.
  *   - A pointer is aligned for its element. It may be NULL only where its length is 0.
- *   - `answers` overlaps nothing else that is lent. What is only read may overlap.
- *   - Nothing else writes to lent memory while the call runs, and nothing else reads `answers`.
+ *   - `answers` overlaps nothing else that is handed to the call. What is only read may overlap.
+ *   - While the call runs, nothing else writes to what was handed to it, and nothing else reads `answers`.
  *   - The stack has 1 MiB of room. That was enough for every call on the largest inputs: measured, not proved.
  *
- * That is all. Whatever bytes and numbers come, and however large a column count or record number is, a call reads only
- * what it was lent, writes only `answers`, ends, and gives the one reply that is stated here. Calls allocate nothing,
+ * That is all. For any bytes and numbers, and however large a column count or record number is, a call reads only what
+ * was handed to it, writes only `answers`, ends, and gives the one reply that is stated here. Calls allocate nothing,
  * keep nothing between calls, and may run on several threads at once.
  */
 #ifndef FINIALBASIL_H
@@ -118,6 +150,11 @@
 extern "C" {
 #endif
 
+/* The version of this header, and of the library that is delivered with it. */
+#define FNB_VERSION_MAJOR 0
+#define FNB_VERSION_MINOR 2
+#define FNB_VERSION_PATCH 0
+
 /* The limits: of a record and a table, of a row, of a term, of a query. */
 #define FNB_RECORD_BYTES 12
 #define FNB_MOST_RECORDS 128
@@ -125,6 +162,29 @@ extern "C" {
 #define FNB_MOST_COLUMNS 8 /* of one row */
 #define FNB_MOST_VALUES 16 /* of one term */
 #define FNB_MOST_ROWS 1024 /* of one query */
+
+/* The kinds of records. */
+#define FNB_KIND_VALUE 0
+#define FNB_KIND_LOWEST 1
+#define FNB_KIND_HIGHEST 2
+#define FNB_KIND_AROUND 3
+#define FNB_KIND_BETWEEN 4
+#define FNB_KIND_POS 5
+#define FNB_KIND_NEG 6
+#define FNB_KIND_POS_NEG 7
+#define FNB_KIND_POS_POS 8
+#define FNB_KIND_EXPLICIT 9
+#define FNB_KIND_ANY 10
+#define FNB_KIND_PARETO 16
+#define FNB_KIND_PRIOR 17
+#define FNB_KIND_BOTH 18
+#define FNB_KIND_DUAL 19
+
+/* The roles of values. */
+#define FNB_ROLE_FAVOURITE 1
+#define FNB_ROLE_DISLIKED 2
+#define FNB_ROLE_SECOND_CHOICE 3
+#define FNB_ROLE_EDGE 4
 
 /* What `place` holds where a reply has none. */
 #define FNB_NO_PLACE 0xffffffffu
@@ -150,6 +210,14 @@ extern "C" {
 #define FNB_GROUP 17u
 #define FNB_SHORT 18u
 
+/* The word of a refusal's number, "WIDTH" to "SHORT"; "ACCEPTED" for 0, and "UNKNOWN" for every other number. */
+static inline const char *fnb_refusal_word(uint32_t number) {
+    static const char *const words[] = {"ACCEPTED", "WIDTH",  "LENGTH", "KIND",  "FILLER", "COLUMN", "PART",
+                                        "REUSED",   "STRAY",  "CROWD",  "CLASH", "LOOP",   "BOUNDS", "APART",
+                                        "LOOSE",    "ROWS",   "TERM",   "GROUP", "SHORT"};
+    return number < sizeof words / sizeof *words ? words[number] : "UNKNOWN";
+}
+
 /* How two rows compare. */
 #define FNB_SAME 0u          /* equal in the term's columns */
 #define FNB_FIRST_BETTER 1u  /* the first row is better */
@@ -159,6 +227,105 @@ extern "C" {
 /* Whether a row is perfect. */
 #define FNB_NOT_PERFECT 0u
 #define FNB_PERFECT 1u
+
+/* Builders of records. Each writes the 12 bytes of one record at `at`, and gives the place after them. A builder
+ * refuses nothing: the calls say what is wrong with a table. A column or part that no byte holds is written as 255,
+ * which every call refuses (COLUMN, PART). SPECIFICATION, "The table". */
+
+/* What the builders below share. */
+static inline uint8_t *fnb_put_record(uint8_t *at, uint8_t kind, size_t p, size_t q, int32_t u, int32_t v) {
+    int i;
+    at[0] = kind;
+    at[1] = (uint8_t)(p < 255 ? p : 255);
+    at[2] = (uint8_t)(q < 255 ? q : 255);
+    at[3] = 0;
+    for (i = 0; i < 4; i++) {
+        at[4 + i] = (uint8_t)((uint32_t)u >> (8 * i));
+        at[8 + i] = (uint8_t)((uint32_t)v >> (8 * i));
+    }
+    return at + FNB_RECORD_BYTES;
+}
+
+/* Base terms on one column that need no values. */
+static inline uint8_t *fnb_put_lowest(uint8_t *at, size_t column) {
+    return fnb_put_record(at, FNB_KIND_LOWEST, column, 0, 0, 0);
+}
+
+static inline uint8_t *fnb_put_highest(uint8_t *at, size_t column) {
+    return fnb_put_record(at, FNB_KIND_HIGHEST, column, 0, 0, 0);
+}
+
+/* Different numbers at the same distance from the wish are not equal, so that a PRIOR does not go on to its right part.
+ * To have them equal, ask LOWEST of a column that holds the distance: see "Neither better nor equal" above. */
+static inline uint8_t *fnb_put_around(uint8_t *at, size_t column, int32_t wish) {
+    return fnb_put_record(at, FNB_KIND_AROUND, column, 0, wish, 0);
+}
+
+/* Different numbers from low to up are not equal either. To have them equal, ask LOWEST of a column that holds the
+ * distance. */
+static inline uint8_t *fnb_put_between(uint8_t *at, size_t column, int32_t low, int32_t up) {
+    return fnb_put_record(at, FNB_KIND_BETWEEN, column, 0, low, up);
+}
+
+static inline uint8_t *fnb_put_any(uint8_t *at, size_t column) {
+    return fnb_put_record(at, FNB_KIND_ANY, column, 0, 0, 0);
+}
+
+/* Base terms on one column, whose values are put right after them. Different numbers of one class, such as two
+ * favourites, are not equal either. To have them equal, ask LOWEST of a column that holds the class. */
+static inline uint8_t *fnb_put_pos(uint8_t *at, size_t column) {
+    return fnb_put_record(at, FNB_KIND_POS, column, 0, 0, 0);
+}
+
+static inline uint8_t *fnb_put_neg(uint8_t *at, size_t column) {
+    return fnb_put_record(at, FNB_KIND_NEG, column, 0, 0, 0);
+}
+
+static inline uint8_t *fnb_put_pos_neg(uint8_t *at, size_t column) {
+    return fnb_put_record(at, FNB_KIND_POS_NEG, column, 0, 0, 0);
+}
+
+static inline uint8_t *fnb_put_pos_pos(uint8_t *at, size_t column) {
+    return fnb_put_record(at, FNB_KIND_POS_POS, column, 0, 0, 0);
+}
+
+static inline uint8_t *fnb_put_explicit(uint8_t *at, size_t column) {
+    return fnb_put_record(at, FNB_KIND_EXPLICIT, column, 0, 0, 0);
+}
+
+/* Values of the nearest term before them. */
+static inline uint8_t *fnb_put_favourite(uint8_t *at, int32_t value) {
+    return fnb_put_record(at, FNB_KIND_VALUE, FNB_ROLE_FAVOURITE, 0, value, 0);
+}
+
+static inline uint8_t *fnb_put_disliked(uint8_t *at, int32_t value) {
+    return fnb_put_record(at, FNB_KIND_VALUE, FNB_ROLE_DISLIKED, 0, value, 0);
+}
+
+static inline uint8_t *fnb_put_second_choice(uint8_t *at, int32_t value) {
+    return fnb_put_record(at, FNB_KIND_VALUE, FNB_ROLE_SECOND_CHOICE, 0, value, 0);
+}
+
+static inline uint8_t *fnb_put_edge(uint8_t *at, int32_t worse, int32_t better) {
+    return fnb_put_record(at, FNB_KIND_VALUE, FNB_ROLE_EDGE, 0, worse, better);
+}
+
+/* Compound terms of parts, which are the record numbers of earlier terms. */
+static inline uint8_t *fnb_put_pareto(uint8_t *at, size_t left, size_t right) {
+    return fnb_put_record(at, FNB_KIND_PARETO, left, right, 0, 0);
+}
+
+static inline uint8_t *fnb_put_prior(uint8_t *at, size_t left, size_t right) {
+    return fnb_put_record(at, FNB_KIND_PRIOR, left, right, 0, 0);
+}
+
+static inline uint8_t *fnb_put_both(uint8_t *at, size_t left, size_t right) {
+    return fnb_put_record(at, FNB_KIND_BOTH, left, right, 0, 0);
+}
+
+static inline uint8_t *fnb_put_dual(uint8_t *at, size_t part) {
+    return fnb_put_record(at, FNB_KIND_DUAL, part, 0, 0, 0);
+}
 
 /* What the check gives. On a refusal the fields after `place` are 0. */
 typedef struct {
@@ -187,7 +354,7 @@ typedef struct {
  * Takes a table, the column count, the record number of a term, the top or any other, and two rows with a number for
  * each column.
  * Gives in `value` how the first row compares with the second under the term: FNB_SAME, FNB_FIRST_BETTER,
- * FNB_SECOND_BETTER or FNB_UNRANKED. When the rows change places, the outcome turns round.
+ * FNB_SECOND_BETTER or FNB_UNRANKED. With the two rows exchanged, FNB_FIRST_BETTER and FNB_SECOND_BETTER are exchanged.
  * Refuses 1 to 16. */
 fnb_reply fnb_compare(const uint8_t *table, size_t table_len, size_t columns, size_t term, const int32_t *first,
                       size_t first_len, const int32_t *second, size_t second_len);
@@ -211,13 +378,13 @@ fnb_reply fnb_perfect(const uint8_t *table, size_t table_len, size_t columns, si
  * else the number of the lowest kept row of its group that is better, and there always is one. Rows of a group that are
  * equal in the term's columns are all kept or all dropped. Entries after the last row keep their contents.
  * Gives in `value` how many rows were kept, in all groups together. Columns that neither the term nor the group byte
- * reads have no bearing. With no rows 0 are kept, and nothing is written.
+ * reads do not change the answers. With no rows 0 are kept, and nothing is written.
  * Refuses 1 to 18, and then writes nothing. */
 fnb_reply fnb_query_direct(const uint8_t *table, size_t table_len, size_t columns, const int32_t *rows, size_t rows_len,
                            size_t term, uint8_t group, uint16_t *answers, size_t answers_len);
 
 /* Query, by parts: a term's answers are made from those of its parts, 64 rows at a time. Takes, writes, gives and
- * refuses the same as fnb_query_direct, for whatever comes, and is mostly the faster one from 128 rows on. */
+ * refuses the same as fnb_query_direct for every input, and is usually the faster of the two from 128 rows on. */
 fnb_reply fnb_query_by_parts(const uint8_t *table, size_t table_len, size_t columns, const int32_t *rows,
                              size_t rows_len, size_t term, uint8_t group, uint16_t *answers, size_t answers_len);
 

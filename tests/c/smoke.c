@@ -1,7 +1,8 @@
-/* The archive behind its header: layout of the replies, T1 accepted, rows compared, marked and queried by both engines,
- * refusals with and without place, NULL with length 0, and the dearest table on a thread with 1 MiB of stack. Expected
- * answers are from document 01. Sanitizers do not see into the archive, so what is lent lies between pages that nobody
- * may touch, flush at the end and flush at the start. */
+/* The archive behind its header: constants, layout of the replies, words and builders, T1 accepted, rows compared,
+ * marked and queried by both engines, refusals with and without place, NULL with length 0, and a costly table on a
+ * thread with 1 MiB of stack. Expected answers are worked out by hand from SPECIFICATION, "When a row is better" and
+ * "What a call refuses"; T1 and V are those of its "Worked cases". Sanitizers do not see into the archive, so what is
+ * lent lies between pages that nobody may touch, flush at the end and flush at the start. */
 #ifndef _GNU_SOURCE
 #define _GNU_SOURCE
 #endif
@@ -31,7 +32,22 @@ HOLDS(sizeof(fnb_reply) == 12);
 HOLDS(offsetof(fnb_reply, refusal) == 0);
 HOLDS(offsetof(fnb_reply, place) == 4);
 HOLDS(offsetof(fnb_reply, value) == 8);
-HOLDS(FNB_MOST_TABLE_BYTES == FNB_RECORD_BYTES * FNB_MOST_RECORDS);
+
+/* SPECIFICATION, "Limits", "The table", "What a call refuses", "The calls". */
+HOLDS(FNB_RECORD_BYTES == 12 && FNB_MOST_RECORDS == 128 && FNB_MOST_TABLE_BYTES == 1536);
+HOLDS(FNB_MOST_COLUMNS == 8 && FNB_MOST_VALUES == 16 && FNB_MOST_ROWS == 1024);
+HOLDS(FNB_KIND_VALUE == 0 && FNB_KIND_LOWEST == 1 && FNB_KIND_HIGHEST == 2 && FNB_KIND_AROUND == 3);
+HOLDS(FNB_KIND_BETWEEN == 4 && FNB_KIND_POS == 5 && FNB_KIND_NEG == 6 && FNB_KIND_POS_NEG == 7);
+HOLDS(FNB_KIND_POS_POS == 8 && FNB_KIND_EXPLICIT == 9 && FNB_KIND_ANY == 10);
+HOLDS(FNB_KIND_PARETO == 16 && FNB_KIND_PRIOR == 17 && FNB_KIND_BOTH == 18 && FNB_KIND_DUAL == 19);
+HOLDS(FNB_ROLE_FAVOURITE == 1 && FNB_ROLE_DISLIKED == 2 && FNB_ROLE_SECOND_CHOICE == 3 && FNB_ROLE_EDGE == 4);
+HOLDS(FNB_ACCEPTED == 0 && FNB_WIDTH == 1 && FNB_LENGTH == 2 && FNB_KIND == 3 && FNB_FILLER == 4);
+HOLDS(FNB_COLUMN == 5 && FNB_PART == 6 && FNB_REUSED == 7 && FNB_STRAY == 8 && FNB_CROWD == 9 && FNB_CLASH == 10);
+HOLDS(FNB_LOOP == 11 && FNB_BOUNDS == 12 && FNB_APART == 13 && FNB_LOOSE == 14);
+HOLDS(FNB_ROWS == 15 && FNB_TERM == 16 && FNB_GROUP == 17 && FNB_SHORT == 18);
+HOLDS(FNB_NO_PLACE == 4294967295u);
+HOLDS(FNB_SAME == 0 && FNB_FIRST_BETTER == 1 && FNB_SECOND_BETTER == 2 && FNB_UNRANKED == 3);
+HOLDS(FNB_NOT_PERFECT == 0 && FNB_PERFECT == 1);
 
 static int checked, failed;
 
@@ -199,16 +215,91 @@ static fnb_reply query(const uint8_t *table, size_t length, size_t columns, cons
 /* Records as bytes; u and v are given by their low byte. */
 #define RECORD(kind, p, q, u, v) kind, p, q, 0, u, 0, 0, 0, v, 0, 0, 0
 
+static void word_cases(void) {
+    static const char *const words[] = {"ACCEPTED", "WIDTH", "LENGTH", "KIND",   "FILLER", "COLUMN", "PART",
+                                        "REUSED",   "STRAY", "CROWD",  "CLASH",  "LOOP",   "BOUNDS", "APART",
+                                        "LOOSE",    "ROWS",  "TERM",   "GROUP",  "SHORT",  "UNKNOWN"};
+    uint32_t number;
+    for (number = 0; number < sizeof words / sizeof *words; number++, checked++)
+        if (strcmp(fnb_refusal_word(number), words[number]) != 0) {
+            failed++;
+            printf("the word of refusal %u is %s\n", (unsigned)number, fnb_refusal_word(number));
+        }
+    checked++;
+    if (strcmp(fnb_refusal_word(UINT32_MAX), "UNKNOWN") != 0) {
+        failed++;
+        printf("the word of the largest number is %s\n", fnb_refusal_word(UINT32_MAX));
+    }
+}
+
+/* A builder writes the expected record at its place, nothing beside it, and gives the place after it. */
+static void built(const char *name, const uint8_t *room, const uint8_t *after, const uint8_t *expected) {
+    int i;
+    checked++;
+    if (room[0] == UNTOUCHED && memcmp(room + 1, expected, 12) == 0 && room[13] == UNTOUCHED && after == room + 13)
+        return;
+    failed++;
+    printf("%s:", name);
+    for (i = 0; i < 14; i++)
+        printf(" %u", (unsigned)room[i]);
+    printf(", and the place after it is %d\n", (int)(after - room));
+}
+
+#define BUILT(call, ...)                                                                                               \
+    do {                                                                                                               \
+        static const uint8_t expected[12] = {__VA_ARGS__};                                                             \
+        uint8_t room[14], *at = room + 1;                                                                              \
+        memset(room, UNTOUCHED, sizeof room);                                                                          \
+        built(#call, room, call, expected);                                                                            \
+    } while (0)
+
+static void builder_cases(void) {
+    BUILT(fnb_put_lowest(at, 1), 1, 1, 0, 0, 0, 0, 0, 0, 0, 0, 0, 0);
+    BUILT(fnb_put_highest(at, 7), 2, 7, 0, 0, 0, 0, 0, 0, 0, 0, 0, 0);
+    BUILT(fnb_put_around(at, 2, 24), 3, 2, 0, 0, 24, 0, 0, 0, 0, 0, 0, 0);
+    BUILT(fnb_put_around(at, 0, -2), 3, 0, 0, 0, 254, 255, 255, 255, 0, 0, 0, 0);
+    BUILT(fnb_put_around(at, 0, 0x01020304), 3, 0, 0, 0, 4, 3, 2, 1, 0, 0, 0, 0);
+    BUILT(fnb_put_around(at, 0, INT32_MIN), 3, 0, 0, 0, 0, 0, 0, 128, 0, 0, 0, 0);
+    BUILT(fnb_put_around(at, 0, INT32_MAX), 3, 0, 0, 0, 255, 255, 255, 127, 0, 0, 0, 0);
+    BUILT(fnb_put_between(at, 3, -256, 1000), 4, 3, 0, 0, 0, 255, 255, 255, 232, 3, 0, 0);
+    BUILT(fnb_put_between(at, 0, INT32_MIN, INT32_MAX), 4, 0, 0, 0, 0, 0, 0, 128, 255, 255, 255, 127);
+    BUILT(fnb_put_pos(at, 1), 5, 1, 0, 0, 0, 0, 0, 0, 0, 0, 0, 0);
+    BUILT(fnb_put_neg(at, 2), 6, 2, 0, 0, 0, 0, 0, 0, 0, 0, 0, 0);
+    BUILT(fnb_put_pos_neg(at, 3), 7, 3, 0, 0, 0, 0, 0, 0, 0, 0, 0, 0);
+    BUILT(fnb_put_pos_pos(at, 4), 8, 4, 0, 0, 0, 0, 0, 0, 0, 0, 0, 0);
+    BUILT(fnb_put_explicit(at, 5), 9, 5, 0, 0, 0, 0, 0, 0, 0, 0, 0, 0);
+    BUILT(fnb_put_any(at, 6), 10, 6, 0, 0, 0, 0, 0, 0, 0, 0, 0, 0);
+    BUILT(fnb_put_pareto(at, 1, 2), 16, 1, 2, 0, 0, 0, 0, 0, 0, 0, 0, 0);
+    BUILT(fnb_put_prior(at, 0, 126), 17, 0, 126, 0, 0, 0, 0, 0, 0, 0, 0, 0);
+    BUILT(fnb_put_both(at, 4, 3), 18, 4, 3, 0, 0, 0, 0, 0, 0, 0, 0, 0);
+    BUILT(fnb_put_dual(at, 9), 19, 9, 0, 0, 0, 0, 0, 0, 0, 0, 0, 0);
+    BUILT(fnb_put_favourite(at, 7), 0, 1, 0, 0, 7, 0, 0, 0, 0, 0, 0, 0);
+    BUILT(fnb_put_disliked(at, -9), 0, 2, 0, 0, 247, 255, 255, 255, 0, 0, 0, 0);
+    BUILT(fnb_put_second_choice(at, 65536), 0, 3, 0, 0, 0, 0, 1, 0, 0, 0, 0, 0);
+    BUILT(fnb_put_edge(at, -1, 2), 0, 4, 0, 0, 255, 255, 255, 255, 2, 0, 0, 0);
+
+    /* Columns and parts that no byte holds: the low byte of 256 and 264 alone would be a column. */
+    BUILT(fnb_put_lowest(at, 254), 1, 254, 0, 0, 0, 0, 0, 0, 0, 0, 0, 0);
+    BUILT(fnb_put_lowest(at, 255), 1, 255, 0, 0, 0, 0, 0, 0, 0, 0, 0, 0);
+    BUILT(fnb_put_lowest(at, 256), 1, 255, 0, 0, 0, 0, 0, 0, 0, 0, 0, 0);
+    BUILT(fnb_put_pos(at, 264), 5, 255, 0, 0, 0, 0, 0, 0, 0, 0, 0, 0);
+    BUILT(fnb_put_around(at, SIZE_MAX, 1), 3, 255, 0, 0, 1, 0, 0, 0, 0, 0, 0, 0);
+    BUILT(fnb_put_prior(at, 256, 1), 17, 255, 1, 0, 0, 0, 0, 0, 0, 0, 0, 0);
+    BUILT(fnb_put_pareto(at, 0, 264), 16, 0, 255, 0, 0, 0, 0, 0, 0, 0, 0, 0);
+    BUILT(fnb_put_both(at, SIZE_MAX, SIZE_MAX), 18, 255, 255, 0, 0, 0, 0, 0, 0, 0, 0, 0);
+    BUILT(fnb_put_dual(at, (size_t)4294967296u), 19, 255, 0, 0, 0, 0, 0, 0, 0, 0, 0, 0);
+}
+
 /* Seven EXPLICIT of 16 edges joined by PARETO: 125 records. */
-static uint8_t dearest[125 * FNB_RECORD_BYTES];
+static uint8_t costly[125 * FNB_RECORD_BYTES];
 
 static void put(size_t k, size_t kind, size_t p, size_t q, size_t u, size_t v) {
     const uint8_t record[FNB_RECORD_BYTES] = {
         RECORD((uint8_t)kind, (uint8_t)p, (uint8_t)q, (uint8_t)u, (uint8_t)v)};
-    memcpy(dearest + FNB_RECORD_BYTES * k, record, sizeof record);
+    memcpy(costly + FNB_RECORD_BYTES * k, record, sizeof record);
 }
 
-static void make_dearest(void) {
+static void make_costly(void) {
     size_t k = 0, i, e;
     for (i = 0; i < 7; i++) {
         put(k++, 9, i, 0, 0, 0);
@@ -219,43 +310,43 @@ static void make_dearest(void) {
         put(k, 16, i == 1 ? 0 : k - 1, 17 * i, 0, 0);
 }
 
-/* Every call on the dearest table: in each of its columns 1 leads to 3 by two edges, and 17 is the end of the path. */
+/* Every call on the costly table: in each of its columns 1 leads to 3 by two edges, and 17 is the end of the path. */
 typedef struct {
     fnb_check_reply checked;
     fnb_reply compared, marked, direct, by_parts;
-} dearest_replies;
+} costly_replies;
 
 /* 1,024 rows: 1 to 17 in each of the seven columns, again and again, and the row's number in the last one. */
-static int32_t dearest_rows[FNB_MOST_ROWS * 8];
-static uint16_t dearest_direct[FNB_MOST_ROWS], dearest_by_parts[FNB_MOST_ROWS];
+static int32_t costly_rows[FNB_MOST_ROWS * 8];
+static uint16_t costly_direct[FNB_MOST_ROWS], costly_by_parts[FNB_MOST_ROWS];
 
-static void make_dearest_rows(void) {
+static void make_costly_rows(void) {
     int i, c;
     for (i = 0; i < FNB_MOST_ROWS; i++)
         for (c = 0; c < 8; c++)
-            dearest_rows[8 * i + c] = c < 7 ? 1 + i % 17 : i;
+            costly_rows[8 * i + c] = c < 7 ? 1 + i % 17 : i;
 }
 
-static void *run_dearest(void *replies) {
+static void *run_costly(void *replies) {
     static const int32_t low[8] = {1, 1, 1, 1, 1, 1, 1, 1}, high[8] = {3, 3, 3, 3, 3, 3, 3, 3},
                          best[8] = {17, 17, 17, 17, 17, 17, 17, 17};
-    dearest_replies *r = (dearest_replies *)replies;
-    r->checked = fnb_check(dearest, sizeof dearest, 8);
-    r->compared = fnb_compare(dearest, sizeof dearest, 8, 124, low, 8, high, 8);
-    r->marked = fnb_perfect(dearest, sizeof dearest, 8, 124, best, 8);
-    r->direct = fnb_query_direct(dearest, sizeof dearest, 8, dearest_rows, 8 * FNB_MOST_ROWS, 124, 0, dearest_direct,
+    costly_replies *r = (costly_replies *)replies;
+    r->checked = fnb_check(costly, sizeof costly, 8);
+    r->compared = fnb_compare(costly, sizeof costly, 8, 124, low, 8, high, 8);
+    r->marked = fnb_perfect(costly, sizeof costly, 8, 124, best, 8);
+    r->direct = fnb_query_direct(costly, sizeof costly, 8, costly_rows, 8 * FNB_MOST_ROWS, 124, 0, costly_direct,
                                  FNB_MOST_ROWS);
-    r->by_parts = fnb_query_by_parts(dearest, sizeof dearest, 8, dearest_rows, 8 * FNB_MOST_ROWS, 124, 0,
-                                     dearest_by_parts, FNB_MOST_ROWS);
+    r->by_parts = fnb_query_by_parts(costly, sizeof costly, 8, costly_rows, 8 * FNB_MOST_ROWS, 124, 0,
+                                     costly_by_parts, FNB_MOST_ROWS);
     return NULL;
 }
 
-static dearest_replies on_small_stack(void) {
-    dearest_replies replies;
+static costly_replies on_small_stack(void) {
+    costly_replies replies;
     pthread_attr_t attributes;
     pthread_t thread;
     if (pthread_attr_init(&attributes) != 0 || pthread_attr_setstacksize(&attributes, 1 << 20) != 0 ||
-        pthread_create(&thread, &attributes, run_dearest, &replies) != 0 || pthread_join(thread, NULL) != 0)
+        pthread_create(&thread, &attributes, run_costly, &replies) != 0 || pthread_join(thread, NULL) != 0)
         abort();
     return replies;
 }
@@ -270,11 +361,17 @@ static void check_cases(const uint8_t *t1, size_t t1_length) {
     static const uint8_t loose[] = {RECORD(1, 0, 0, 0, 0), RECORD(2, 0, 0, 0, 0)};
     static const uint8_t values_last[] = {RECORD(5, 7, 0, 0, 0), RECORD(0, 1, 0, 9, 0)};
     static const uint8_t zeros[FNB_MOST_TABLE_BYTES + 12] = {0};
+    uint8_t built_table[2 * FNB_RECORD_BYTES];
 
-    expect("dearest table", CHECK(dearest, 8), FNB_ACCEPTED, FNB_NO_PLACE, 125, 124, 127, 7);
+    expect("costly table", CHECK(costly, 8), FNB_ACCEPTED, FNB_NO_PLACE, 125, 124, 127, 7);
     expect("T1", check(t1, t1_length, 3), FNB_ACCEPTED, FNB_NO_PLACE, 5, 4, 7, 3);
     expect("36 bytes of T1", check(t1, 36, 3), FNB_ACCEPTED, FNB_NO_PLACE, 3, 2, 3, 2);
     expect("values after the top", CHECK(values_last, 8), FNB_ACCEPTED, FNB_NO_PLACE, 2, 0, 128, 1);
+
+    fnb_put_lowest(built_table, 264);
+    refused("built with column 264", check(built_table, 12, 8), FNB_COLUMN, 0);
+    fnb_put_dual(fnb_put_lowest(built_table, 0), 256);
+    refused("built with part 256", CHECK(built_table, 8), FNB_PART, 1);
 
     refused("no columns", check(t1, t1_length, 0), FNB_WIDTH, FNB_NO_PLACE);
     refused("nine columns", check(t1, t1_length, 9), FNB_WIDTH, FNB_NO_PLACE);
@@ -454,8 +551,8 @@ static void query_most_rows(void) {
     not_queried("a number more", low, sizeof low, 8, rows, length + 1, 0, 0, 1026, FNB_ROWS, FNB_NO_PLACE);
 }
 
-/* In every 17th row from row 16 on all columns of the dearest table hold 17: 60 rows, which are equal. */
-static void expect_dearest(const uint16_t *answers) {
+/* In every 17th row from row 16 on all columns of the costly table hold 17: 60 rows, which are equal. */
+static void expect_costly(const uint16_t *answers) {
     int i;
     checked++;
     for (i = 0; i < FNB_MOST_ROWS; i++)
@@ -464,25 +561,27 @@ static void expect_dearest(const uint16_t *answers) {
     if (i == FNB_MOST_ROWS)
         return;
     failed++;
-    printf("dearest table queried, 1 MiB of stack: entry %d is %u\n", i, (unsigned)answers[i]);
+    printf("costly table queried, 1 MiB of stack: entry %d is %u\n", i, (unsigned)answers[i]);
 }
 
 int main(void) {
     static const uint8_t t1[] = {RECORD(3, 0, 0, 0, 0), RECORD(1, 1, 0, 0, 0), RECORD(16, 0, 1, 0, 0),
                                  RECORD(2, 2, 0, 0, 0), RECORD(16, 2, 3, 0, 0)};
-    dearest_replies dear;
+    costly_replies replies;
 
+    word_cases();
+    builder_cases();
     make_rooms();
-    make_dearest();
-    make_dearest_rows();
-    dear = on_small_stack();
-    expect("dearest table, 1 MiB of stack", dear.checked, FNB_ACCEPTED, FNB_NO_PLACE, 125, 124, 127, 7);
-    gives("dearest table compared, 1 MiB of stack", dear.compared, 0, FNB_NO_PLACE, FNB_SECOND_BETTER);
-    gives("dearest table marked, 1 MiB of stack", dear.marked, 0, FNB_NO_PLACE, FNB_PERFECT);
-    gives("dearest table queried directly, 1 MiB of stack", dear.direct, 0, FNB_NO_PLACE, 60);
-    gives("dearest table queried by parts, 1 MiB of stack", dear.by_parts, 0, FNB_NO_PLACE, 60);
-    expect_dearest(dearest_direct);
-    expect_dearest(dearest_by_parts);
+    make_costly();
+    make_costly_rows();
+    replies = on_small_stack();
+    expect("costly table, 1 MiB of stack", replies.checked, FNB_ACCEPTED, FNB_NO_PLACE, 125, 124, 127, 7);
+    gives("costly table compared, 1 MiB of stack", replies.compared, 0, FNB_NO_PLACE, FNB_SECOND_BETTER);
+    gives("costly table marked, 1 MiB of stack", replies.marked, 0, FNB_NO_PLACE, FNB_PERFECT);
+    gives("costly table queried directly, 1 MiB of stack", replies.direct, 0, FNB_NO_PLACE, 60);
+    gives("costly table queried by parts, 1 MiB of stack", replies.by_parts, 0, FNB_NO_PLACE, 60);
+    expect_costly(costly_direct);
+    expect_costly(costly_by_parts);
     check_cases(t1, sizeof t1);
     compare_cases(t1, sizeof t1);
     perfect_cases(t1, sizeof t1);
