@@ -76,8 +76,8 @@ pub fn catalogue() -> Vec<Row> {
 /// Unusual voltages cost more, as do power and speed; torque follows from power and speed; most motors are in stock.
 fn motor(frame: &Frame, volts: i32, watts: i32, rpm: i32, differences: &mut Differences) -> Row {
     let common = volts == 12 || volts == 24;
-    let dearer = frame.cents + 14 * watts + rpm / 10 + if common { 0 } else { 450 };
-    let cents = dearer * (880 + differences.below(241)) / 1000 / 10 * 10;
+    let listed = frame.cents + 14 * watts + rpm / 10 + if common { 0 } else { 450 };
+    let cents = listed * (880 + differences.below(241)) / 1000 / 10 * 10;
     let grams = (frame.grams + watts / 2) * (920 + differences.below(161)) / 1000;
     let torque = 9549 * watts / rpm;
     let permille = frame.permille + differences.below(61);

@@ -27,7 +27,7 @@ pub fn limit(random: &mut Random, turn: usize) -> Input {
         4 => term(random, turn / 8),
         5 => lengths(random, turn / 8),
         6 => bounds(random, turn / 8),
-        _ => dearest(random, turn / 8),
+        _ => costliest(random, turn / 8),
     }
 }
 
@@ -151,11 +151,11 @@ fn bounds(random: &mut Random, turn: usize) -> Input {
 }
 
 /// The tables that cost most, with few rows for the most part.
-fn dearest(random: &mut Random, turn: usize) -> Input {
+fn costliest(random: &mut Random, turn: usize) -> Input {
     let few: Vec<i32> = (-2..4).collect();
     let all: Vec<i32> = (-1..34).collect();
     let palette = if random.once_in(2) { few } else { all };
-    let records = dearest_tables()[turn % 3].clone();
+    let records = costliest_tables()[turn % 3].clone();
     let asks = random.pick(&Asks::ALL);
     let mut input = Input::new(random, asks, written(&records), 8, Origin::Limit);
     let most = if random.once_in(16) { 140 } else { 12 };
@@ -165,7 +165,7 @@ fn dearest(random: &mut Random, turn: usize) -> Input {
 }
 
 /// Tables of 128 records: 127 DUALs; 64 base terms; seven EXPLICIT of 16 edges.
-pub fn dearest_tables() -> [Vec<Record>; 3] {
+pub fn costliest_tables() -> [Vec<Record>; 3] {
     let mut duals = vec![Record::base(AROUND, 0)];
     duals.extend((0..MOST - 1).map(Record::dual));
     [duals, many_bases(), many_edges()]

@@ -3,7 +3,7 @@
 use crate::compare::{difference, expected};
 use crate::input::{Asks, Input, Origin};
 use crate::library::Room;
-use crate::limits::dearest_tables;
+use crate::limits::costliest_tables;
 use crate::random::Random;
 use crate::records::*;
 use crate::rows::Rows;
@@ -15,7 +15,7 @@ const ROWS: usize = 1_024;
 /// Runs the calls. Gives what went wrong.
 pub fn judge(seed: u64) -> Vec<String> {
     let mut wrong = vec![];
-    for (which, records) in dearest_tables().into_iter().enumerate() {
+    for (which, records) in costliest_tables().into_iter().enumerate() {
         for asks in Asks::ALL {
             let input = worst(seed, asks, &records);
             let reply = expected(&Oracle::default(), &input);
