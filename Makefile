@@ -75,7 +75,7 @@ dist: shared ## make target/dist/finialbasil-VERSION, what a buyer gets, and the
 	@install -d $(addprefix $(folder)/,doc example rust/lib)
 	@install -m 644 $(documents) $(folder)/doc
 	@install -m 644 CHANGELOG.md bindings/c/delivery/* $(folder)
-	@cp -r bindings/c/example.c bindings/c/example.expected $(wildcard examples/valves) $(folder)/example
+	@cp -r bindings/c/example.c bindings/c/example.expected examples/valves $(folder)/example
 	@find $(folder)/example -name Cargo.toml -exec sed -i 's|/bindings/rust"|/rust"|' {} +
 	@install -m 644 $(archive) $(folder)/rust/lib
 	@cp -r $(wildcard $(addprefix bindings/rust/,Cargo.toml README.md build.rs src tests examples)) $(folder)/rust

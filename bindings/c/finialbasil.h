@@ -3,7 +3,7 @@
  * A table of wishes says when one row is better than another. A query keeps a row exactly when no row of its group is
  * better, and names for each dropped row the lowest-numbered kept row that is better. Link with libfinialbasil.a or
  * libfinialbasil.so; there is nothing to configure. The usual order of calls is fnb_check once for a table, then
- * fnb_query_by_parts for its top.
+ * fnb_query_by_parts for its top, or fnb_query_direct, which mostly takes less time for fewer than 128 rows.
  *
  * This header reads alone. The same rules with an example for each are in SPECIFICATION.md of the delivery, which is
  * cited by the titles of its sections: SPECIFICATION, "The table".
@@ -93,10 +93,10 @@
  * not go on to its right part, and under a PARETO with such a term as a part neither row is better. So "10 to 16 bar,
  * then price" keeps an expensive valve for 12 bar beside a cheap valve for 16 bar.
  *
- * Where the same distance is to count as equal, store the distance as a column of its own and ask LOWEST of it: a
- * column that holds 0 for 10 to 16 bar, and else the difference to the nearer bound. LOWEST of that column, then price,
- * keeps the cheap valve alone. For POS, NEG, POS/NEG and POS/POS store the class instead: 0 for the best numbers, 1 for
- * the next, 2 for the last. SPECIFICATION, "When a row is better".
+ * Where the same distance is to count as equal, work out the distance for the query, hand it over as a column of its
+ * own and ask LOWEST of it: a column that holds 0 for 10 to 16 bar, and else the difference to the nearer bound. LOWEST
+ * of that column, then price, keeps the cheap valve alone. For POS, NEG, POS/NEG and POS/POS do so with the class: 0
+ * for the best numbers, 1 for the next, 2 for the last. SPECIFICATION, "Neither better nor equal"; example/valves.
  *
  * ---- What a call refuses
  *
@@ -131,10 +131,12 @@
  * ---- What every call asks of its caller
  *
  *   - A length counts elements, not bytes: that many can be read behind the pointer, and behind `answers` written.
+ *   - `rows_len` counts numbers: it is rows times columns, and not the number of rows.
  *   - A pointer is aligned for its element. It may be NULL only where its length is 0.
  *   - `answers` overlaps nothing else that is handed to the call. What is only read may overlap.
  *   - While the call runs, nothing else writes to what was handed to it, and nothing else reads `answers`.
  *   - The stack has 1 MiB of room. That was enough for every call on the largest inputs: measured, not proved.
+ *   - A builder (fnb_put_..) finds room for 12 bytes at `at`.
  *
  * That is all. For any bytes and numbers, and however large a column count or record number is, a call reads only what
  * was handed to it, writes only `answers`, ends, and gives the one reply that is stated here. Calls allocate nothing,
@@ -271,8 +273,9 @@ static inline uint8_t *fnb_put_any(uint8_t *at, size_t column) {
     return fnb_put_record(at, FNB_KIND_ANY, column, 0, 0, 0);
 }
 
-/* Base terms on one column, whose values are put right after them. Different numbers of one class, such as two
- * favourites, are not equal either. To have them equal, ask LOWEST of a column that holds the class. */
+/* Base terms on one column, whose values are put right after them; each value is a record and has a number too.
+ * Different numbers of one class, such as two favourites, are not equal either, so that a PARETO or PRIOR with such a
+ * part ranks neither row. To have them equal, ask LOWEST of a column that holds the class. */
 static inline uint8_t *fnb_put_pos(uint8_t *at, size_t column) {
     return fnb_put_record(at, FNB_KIND_POS, column, 0, 0, 0);
 }
@@ -310,7 +313,8 @@ static inline uint8_t *fnb_put_edge(uint8_t *at, int32_t worse, int32_t better) 
     return fnb_put_record(at, FNB_KIND_VALUE, FNB_ROLE_EDGE, 0, worse, better);
 }
 
-/* Compound terms of parts, which are the record numbers of earlier terms. */
+/* Compound terms of parts, which are the record numbers of earlier terms. For three wishes that rank equally, put a
+ * PARETO of two, then a PARETO of that one and the third. */
 static inline uint8_t *fnb_put_pareto(uint8_t *at, size_t left, size_t right) {
     return fnb_put_record(at, FNB_KIND_PARETO, left, right, 0, 0);
 }
@@ -370,10 +374,10 @@ fnb_reply fnb_perfect(const uint8_t *table, size_t table_len, size_t columns, si
                       size_t row_len);
 
 /* Query, direct: rows are compared pair by pair.
- * Takes a table, the column count, the rows, row after row in one run of `rows_len` numbers, the record number of a
- * term, a group byte and the answer buffer. Rows are numbered from 0. With bit j of the group byte set, only rows that
- * are equal in column j are weighed against each other: rows equal in all columns of the byte are a group, and with 0
- * all rows are one.
+ * Takes a table, the column count, the rows, row after row in one run of `rows_len` numbers (rows times columns), the
+ * record number of a term, a group byte and the answer buffer. Rows are numbered from 0. With bit j of the group byte
+ * set (1 << j), only rows that are equal in column j are weighed against each other: rows equal in all columns of the
+ * byte are a group, and with 0 all rows are one.
  * Writes an entry for each row: i for row i if it is kept, that is, if no row of its group is better under the term;
  * else the number of the lowest kept row of its group that is better, and there always is one. Rows of a group that are
  * equal in the term's columns are all kept or all dropped. Entries after the last row keep their contents.

@@ -35,7 +35,8 @@
 //! # }
 //! ```
 //!
-//! Before you place one wish after another, read about equal distance at [`Table::between`].
+//! Before you join wishes, one after another or equally, read
+//! [neither better nor equal](Table#neither-better-nor-equal).
 //!
 //! # For whom, and for whom not
 //!

@@ -29,7 +29,7 @@ use core::fmt;
 /// assert!(table.check(2).is_ok());
 /// # Ok::<(), finialbasil::Refusal>(())
 /// ```
-#[derive(Clone, Copy, Debug, PartialEq, Eq, Hash)]
+#[derive(Clone, Copy, PartialEq, Eq, Hash)]
 pub struct Refusal {
     reason: Reason,
     place: Option<Place>,
@@ -102,6 +102,13 @@ impl fmt::Display for Refusal {
             "{sentence}; {advice} (refusal {}, {word})",
             self.number()
         )
+    }
+}
+
+/// The same words: a `main` that gives a refusal as its error prints this.
+impl fmt::Debug for Refusal {
+    fn fmt(&self, f: &mut fmt::Formatter<'_>) -> fmt::Result {
+        fmt::Display::fmt(self, f)
     }
 }
 
@@ -276,7 +283,8 @@ const LISTED: [Listing; 18] = [
         number: 7,
         word: "REUSED",
         sentence: "a part of this term is a part already",
-        advice: "add the wish of that part once more, as a term of its own, and use that term",
+        advice:
+            "use the term that it became a part of, or add its wish once more, as a term of its own",
     },
     Listing {
         reason: Reason::Stray,

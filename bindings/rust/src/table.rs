@@ -29,6 +29,39 @@ use core::sync::atomic::{AtomicU64, Ordering};
 /// # Ok::<(), finialbasil::Refusal>(())
 /// ```
 ///
+/// # Neither better nor equal
+///
+/// A part leaves the choice to the other part only where the two rows are equal in its columns: the same numbers. 12
+/// and 16 bar under [`between`](Table::between) 10 and 16, 22 and 26 volts [`around`](Table::around) 24, or two brands
+/// that are both favourites are different numbers, and neither is better. If two rows are so in a part of a
+/// [`pareto`](Table::pareto), or in the left part of a [`prior`](Table::prior), then neither row is better, whatever the
+/// other part says: "10 to 16 bar, then price" keeps an expensive valve at 12 bar beside a cheap one at 16.
+///
+/// If the price should decide, work out the distance for the query, hand it over as a column of its own and ask
+/// [`lowest`](Table::lowest) of it. For favourites and disliked values do so with the class: 0 for the best values, 1
+/// for the next, 2 for the last. (Where [`perfect`](Table::perfect) is asked too, ask `around` with the wish 0: it ranks
+/// distances and classes alike, and 0 is perfect.)
+///
+/// ```
+/// use finialbasil::Table;
+///
+/// let valves = [[12, 9_000], [16, 4_500]]; // bar, cents
+/// let mut table = Table::new();
+/// let (bar, price) = (table.between(0, 10, 16)?, table.lowest(1)?);
+/// let wish = table.prior(bar, price)?;
+/// assert_eq!(table.query(wish).run(&valves)?.kept().collect::<Vec<_>>(), [0, 1]);
+///
+/// let valves = valves.map(|[bar, cents]| {
+///     let distance = 0.max(10 - bar).max(bar - 16);
+///     [bar, cents, distance]
+/// });
+/// let mut table = Table::new();
+/// let (distance, price) = (table.lowest(2)?, table.lowest(1)?);
+/// let wish = table.prior(distance, price)?;
+/// assert_eq!(table.query(wish).run(&valves)?.kept().collect::<Vec<_>>(), [1]);
+/// # Ok::<(), finialbasil::Refusal>(())
+/// ```
+///
 /// # In words
 ///
 /// Displayed, a table has a line for each record, in words.
@@ -177,9 +210,9 @@ impl Table {
 
     /// AROUND: the nearer to the wish the better.
     ///
-    /// Different values at the same distance are unranked, and they are not equal. So a wish placed after this one does
-    /// not decide between 22 and 26 volts. If it should, store the distance as a column of its own and ask
-    /// [`lowest`](Table::lowest) of it, as [`between`](Table::between) shows.
+    /// Different values at the same distance are unranked, and they are not equal. So a wish that comes after this one
+    /// or ranks equally does not decide between 22 and 26 volts. If it should, hand over the distance as a column and ask
+    /// [`lowest`](Table::lowest) of it: see [neither better nor equal](Table#neither-better-nor-equal).
     ///
     /// ```
     /// # use finialbasil::{Outcome, Table};
@@ -207,32 +240,8 @@ impl Table {
     /// # Ok::<(), finialbasil::Refusal>(())
     /// ```
     ///
-    /// # Equal distance is not equal
-    ///
-    /// Different values at the same distance, as all are between the bounds, are unranked, and they are not equal. So a
-    /// wish placed after this one does not decide between them: "10 to 16 bar, then price" keeps an expensive valve at
-    /// 12 bar beside a cheap one at 16. If the price should decide, store the distance as a column of its own and ask
-    /// [`lowest`](Table::lowest) of it.
-    ///
-    /// ```
-    /// use finialbasil::Table;
-    ///
-    /// let valves = [[12, 9_000], [16, 4_500]]; // bar, cents
-    /// let mut table = Table::new();
-    /// let (bar, price) = (table.between(0, 10, 16)?, table.lowest(1)?);
-    /// let wish = table.prior(bar, price)?;
-    /// assert_eq!(table.query(wish).run(&valves)?.kept().collect::<Vec<_>>(), [0, 1]);
-    ///
-    /// let valves = valves.map(|[bar, cents]| {
-    ///     let distance = (10 - bar).max(bar - 16).max(0);
-    ///     [bar, cents, distance]
-    /// });
-    /// let mut table = Table::new();
-    /// let (distance, price) = (table.lowest(2)?, table.lowest(1)?);
-    /// let wish = table.prior(distance, price)?;
-    /// assert_eq!(table.query(wish).run(&valves)?.kept().collect::<Vec<_>>(), [1]);
-    /// # Ok::<(), finialbasil::Refusal>(())
-    /// ```
+    /// Different values at the same distance, as all are between the bounds, are unranked, and they are not equal: see
+    /// [neither better nor equal](Table#neither-better-nor-equal).
     ///
     /// # Errors
     /// COLUMN, BOUNDS, LENGTH: see [what is refused](Table#what-is-refused-and-when).
@@ -242,9 +251,10 @@ impl Table {
 
     /// POS: favourites are better than all others.
     ///
-    /// Two favourites are unranked, and they are not equal; nor are two others. So a wish placed after this one does
-    /// not decide between brands 3 and 4. If it should, store the class as a column of its own, 0 for favourites and 1
-    /// for others, and ask [`lowest`](Table::lowest) of it.
+    /// Two favourites are unranked, and they are not equal; nor are two others. So a wish that comes after this one or
+    /// ranks equally does not decide between brands 3 and 4. If it should, hand over the class as a column, 0 for
+    /// favourites and 1 for others, and ask [`lowest`](Table::lowest) of it: see [neither better nor
+    /// equal](Table#neither-better-nor-equal).
     ///
     /// ```
     /// # use finialbasil::{Outcome, Table};
@@ -368,6 +378,10 @@ impl Table {
     }
 
     /// PARETO, both parts ranking equally: better in one part and, in the other, better or equal in all its columns.
+    /// Three and more wishes rank equally by one PARETO within another; how they are nested makes no difference.
+    ///
+    /// Where two rows differ in a part's columns and neither is better there, as with two brands of one class, neither
+    /// is better under the PARETO: see [neither better nor equal](Table#neither-better-nor-equal).
     ///
     /// ```
     /// # use finialbasil::{Outcome, Table};
@@ -496,7 +510,8 @@ impl Table {
         calls::check(self.as_bytes(), columns)
     }
 
-    /// As [`compare`](crate::compare): how the first row compares with the second.
+    /// As [`compare`](crate::compare): how the first row compares with the second. Asked for a part of a wish, it says
+    /// how that part alone ranks them: so a support desk can say which wish speaks for which row.
     ///
     /// # Errors
     /// As [`Table::check`], then ROWS for a second row of another length, then TERM for a term of another table.

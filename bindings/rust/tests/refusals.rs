@@ -206,7 +206,7 @@ const SAID: [&str; 18] = [
     "record 1: a part of this term is no earlier term of this table; \
      use terms that stand before it in the same table (refusal 6, PART)",
     "record 1: a part of this term is a part already; \
-     add the wish of that part once more, as a term of its own, and use that term (refusal 7, REUSED)",
+     use the term that it became a part of, or add its wish once more, as a term of its own (refusal 7, REUSED)",
     "record 1: there is no term before this value, or that term does not take this role; \
      put the value behind a term that takes its role (refusal 8, STRAY)",
     "record 17: this is the 17th value of its term; \
@@ -272,6 +272,8 @@ fn a_refusal_is_an_error() {
         check(&[], 1)?;
         Ok(())
     }
-    let said = asked().unwrap_err().to_string();
-    assert!(said.ends_with(" (refusal 2, LENGTH)"), "{said}");
+    let refusal = asked().unwrap_err();
+    assert_eq!(refusal.to_string(), SAID[1]);
+    // What a `main` prints whose error it is.
+    assert_eq!(format!("{refusal:?}"), SAID[1]);
 }
