@@ -34,13 +34,13 @@ use core::sync::atomic::{AtomicU64, Ordering};
 /// A part leaves the choice to the other part only where the two rows are equal in its columns: the same numbers. 12
 /// and 16 bar under [`between`](Table::between) 10 and 16, 22 and 26 volts [`around`](Table::around) 24, or two brands
 /// that are both favourites are different numbers, and neither is better. If two rows are so in a part of a
-/// [`pareto`](Table::pareto), or in the left part of a [`prior`](Table::prior), then neither row is better, whatever the
-/// other part says: "10 to 16 bar, then price" keeps an expensive valve at 12 bar beside a cheap one at 16.
+/// [`pareto`](Table::pareto), or in the left part of a [`prior`](Table::prior), then neither row is better, whatever
+/// the other part says: "10 to 16 bar, then price" keeps an expensive valve at 12 bar beside a cheap one at 16.
 ///
 /// If the price should decide, work out the distance for the query, hand it over as a column of its own and ask
 /// [`lowest`](Table::lowest) of it. For favourites and disliked values do so with the class: 0 for the best values, 1
-/// for the next, 2 for the last. (Where [`perfect`](Table::perfect) is asked too, ask `around` with the wish 0: it ranks
-/// distances and classes alike, and 0 is perfect.)
+/// for the next, 2 for the last. (Where [`perfect`](Table::perfect) is asked too, ask `around` with the wish 0: it
+/// ranks distances and classes alike, and 0 is perfect.)
 ///
 /// ```
 /// use finialbasil::Table;
@@ -211,8 +211,8 @@ impl Table {
     /// AROUND: the nearer to the wish the better.
     ///
     /// Different values at the same distance are unranked, and they are not equal. So a wish that comes after this one
-    /// or ranks equally does not decide between 22 and 26 volts. If it should, hand over the distance as a column and ask
-    /// [`lowest`](Table::lowest) of it: see [neither better nor equal](Table#neither-better-nor-equal).
+    /// or ranks equally does not decide between 22 and 26 volts. If it should, hand over the distance as a column and
+    /// ask [`lowest`](Table::lowest) of it: see [neither better nor equal](Table#neither-better-nor-equal).
     ///
     /// ```
     /// # use finialbasil::{Outcome, Table};
