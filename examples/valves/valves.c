@@ -75,7 +75,7 @@ int main(void) {
         return 1;
 
     /* 12 and 16 bar are equally good, and so are brands 3 and 4, but different numbers are not equal. Their distances
-     * are equal, and so are their classes: store these as columns of their own, and ask LOWEST of them. */
+     * are equal, and so are their classes: hand these over as columns of their own, and ask LOWEST of them. */
     for (int i = 0; i < VALVES; i++) {
         int32_t bar = valves[i][BAR], brand = valves[i][BRAND];
         valves[i][DISTANCE] = bar < 10 ? 10 - bar : bar > 16 ? bar - 16 : 0;

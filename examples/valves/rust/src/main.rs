@@ -39,7 +39,7 @@ fn word_for_word() -> Result<Answers, Refusal> {
 }
 
 /// 12 and 16 bar are equally good, and so are brands 3 and 4, but different numbers are not equal. Their distances are
-/// equal, and so are their classes: store these as columns of their own, and ask LOWEST of them.
+/// equal, and so are their classes: hand these over as columns of their own, and ask LOWEST of them.
 fn by_distance_and_class() -> Result<Answers, Refusal> {
     let valves = VALVES.map(|[bar, cents, grams, brand, size]| {
         let distance = (10 - bar).max(bar - 16).max(0);
