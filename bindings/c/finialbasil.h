@@ -62,9 +62,9 @@
  *   AROUND            the number at the smaller distance from the wish is better. Distances are exact differences, up
  *                     to 4,294,967,295. Different numbers at the same distance are not equal: see "Neither better
  *                     nor equal" below.
- *   BETWEEN           the number at the smaller distance is better. The distance of a number from low to up is 0; that
- *                     of any other number is its difference to the nearer bound. Different numbers at the same
- *                     distance, such as those from low to up, are not equal: see below.
+ *   BETWEEN           the number at the smaller distance is better. The distance is 0 for low, up and all numbers
+ *                     between them, and for every other number its difference to the nearer bound. Different numbers
+ *                     at the same distance, such as all that are at 0, are not equal: see below.
  *   POS               a favourite is better than every number that is not a favourite. Different favourites are not
  *                     equal, nor are different others: see below.
  *   NEG               a number that is not disliked is better than every disliked number.
@@ -96,7 +96,8 @@
  * Where the same distance is to count as equal, work out the distance for the query, hand it over as a column of its
  * own and ask LOWEST of it: a column that holds 0 for 10 to 16 bar, and else the difference to the nearer bound. LOWEST
  * of that column, then price, keeps the cheap valve alone. For POS, NEG, POS/NEG and POS/POS do so with the class: 0
- * for the best numbers, 1 for the next, 2 for the last. SPECIFICATION, "Neither better nor equal"; example/valves.
+ * for the best numbers, 1 for the next, 2 for the last. SPECIFICATION, "Neither better nor equal"; example/valves
+ * of the delivery.
  *
  * ---- What a call refuses
  *
@@ -274,8 +275,9 @@ static inline uint8_t *fnb_put_any(uint8_t *at, size_t column) {
 }
 
 /* Base terms on one column, whose values are put right after them; each value is a record and has a number too.
- * Different numbers of one class, such as two favourites, are not equal either, so that a PARETO or PRIOR with such a
- * part ranks neither row. To have them equal, ask LOWEST of a column that holds the class. */
+ * Different numbers of one class, such as two favourites, are not equal either, so that a PARETO with such a part, or a
+ * PRIOR with it on the left, ranks neither row. To have them equal, ask LOWEST of a column that holds the class (but
+ * for EXPLICIT, which has no classes). */
 static inline uint8_t *fnb_put_pos(uint8_t *at, size_t column) {
     return fnb_put_record(at, FNB_KIND_POS, column, 0, 0, 0);
 }
@@ -365,10 +367,10 @@ fnb_reply fnb_compare(const uint8_t *table, size_t table_len, size_t columns, si
 
 /* Perfect.
  * Takes a table, the column count, the record number of a term and one row with a number for each column.
- * Gives in `value` FNB_PERFECT when, in every base term beneath the asked term (itself if it is a base term), no 32-bit
- * number is better than the row's, and, where that base term is beneath an odd number of DUALs, counted from the asked
- * term down and with it, none is worse instead. Else FNB_NOT_PERFECT. So under AROUND the wish alone is perfect, under
- * LOWEST -2147483648 alone, under ANY every number.
+ * Gives in `value` FNB_PERFECT if this holds of every base term beneath the asked term (of itself if it is a base term):
+ * no 32-bit number is better than the row's; or, beneath an odd number of DUALs, counted from the asked term down and
+ * with it, none is worse. Else FNB_NOT_PERFECT. So under AROUND the wish alone is perfect, under LOWEST -2147483648
+ * alone, under ANY every number.
  * Refuses 1 to 16. */
 fnb_reply fnb_perfect(const uint8_t *table, size_t table_len, size_t columns, size_t term, const int32_t *row,
                       size_t row_len);
@@ -377,7 +379,7 @@ fnb_reply fnb_perfect(const uint8_t *table, size_t table_len, size_t columns, si
  * Takes a table, the column count, the rows, row after row in one run of `rows_len` numbers (rows times columns), the
  * record number of a term, a group byte and the answer buffer. Rows are numbered from 0. With bit j of the group byte
  * set (1 << j), only rows that are equal in column j are weighed against each other: rows equal in all columns of the
- * byte are a group, and with 0 all rows are one.
+ * byte are a group, and with 0 all rows are one. (A number above 255 loses its higher bits before the call.)
  * Writes an entry for each row: i for row i if it is kept, that is, if no row of its group is better under the term;
  * else the number of the lowest kept row of its group that is better, and there always is one. Rows of a group that are
  * equal in the term's columns are all kept or all dropped. Entries after the last row keep their contents.
