@@ -20,7 +20,7 @@
  *   Kind            Term                                    Fields; every other field is zero
  *   0               value                                   p role, u value; v for role 4 only
  *   1, 2            LOWEST, HIGHEST                         p column
- *   3               AROUND                                  p column, u the wish
+ *   3               AROUND                                  p column, u wish
  *   4               BETWEEN                                 p column, u low, v up
  *   5, 6, 7, 8, 9   POS, NEG, POS/NEG, POS/POS, EXPLICIT    p column
  *   10              ANY                                     p column

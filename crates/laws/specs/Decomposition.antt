@@ -27,7 +27,7 @@ prior-shared p1 p2 over s w =
       same = λ x y. rw (equal-columns p1 p2 over x y, equal-none p2 s w x y) (or-false (better p1 x y));
     }
 
--- 4 (b): P1&P2 ≡ P1 + (A1↔&P2). The specification departs here: the report's + is the disjoint union, and the two
+-- 4 (b): P1&P2 ≡ P1 + (A1↔&P2). The specification decides here: the report's + is the disjoint union, and the two
 -- relations can share values, so this is their plain union, for whatever columns P1 and P2 read.
 pub prior-union : (p1 p2 a : Term) → Antichain a → columnsOf a ≡ columnsOf p1 → (x y : Row)
     → better (pair Prior p1 p2) x y ≡ (better p1 x y || better (pair Prior a p2) x y)

@@ -1,6 +1,6 @@
--- The report's decompositions of a query (000, section 5), for the rows of a set (Proposition 11 is `chain-prior` of
--- Cascade). As the specification departs from Definition 17, only rows of the set count as common betters. Assumes
--- nothing.
+-- The report's decompositions of a query (its section 5), for the rows of a set (Proposition 11 is `chain-prior` of
+-- Cascade). As the specification decides, and not as in Definition 17, only rows of the set count as common betters.
+-- Assumes nothing.
 use mathlib.Core.Path.{_≡_, sym, _∙_, ap}
 use mathlib.Core.Bool.{Bool, _&&_, _||_, false≢true, and-or-distrib-left}
 use mathlib.Core.List.{List}

@@ -93,7 +93,7 @@ equal t x y = equalIn (columnsOf t) x y
 
 -- PARETO: better in one part and, in the other, better or equal in all that part's columns.
 -- PRIOR: better in the left; or equal in all columns of the left and better in the right. Here the specification
--- departs from the report, whose Proposition 4(b) writes a disjoint union: this is the plain union of the two.
+-- decides: the report's Proposition 4(b) writes a disjoint union; this is the plain union of the two.
 -- BOTH: better in both parts. DUAL: x and y change places.
 unfoldable pub better : Term → Row → Row → Bool
 better (base column b values) x y = betterValue b values (cell x column) (cell y column)
