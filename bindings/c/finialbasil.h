@@ -136,14 +136,13 @@
  *   - A pointer is aligned for its element. It may be NULL only where its length is 0.
  *   - `answers` overlaps nothing else that is handed to the call. What is only read may overlap.
  *   - While the call runs, nothing else writes to what was handed to it, and nothing else reads `answers`.
- *   - The stack has 1 MiB of room. That was enough for every call on the largest inputs: measured, not proved. No
- *     function that the five calls reach calls itself, directly or through others: the longest chain of functions
- *     bounds the stack, whatever the input.
+ *   - The stack has 1 MiB of room. That was enough for every call on the largest inputs: measured, not proved.
  *   - A builder (fnb_put_..) finds room for 12 bytes at `at`.
  *
  * That is all. For any bytes and numbers, and however large a column count or record number is, a call reads only what
  * was handed to it, writes only `answers`, ends, and gives the one reply that is stated here. Calls allocate nothing,
- * keep nothing between calls, and may run on several threads at once.
+ * keep nothing between calls, and may run on several threads at once. In the five calls no function calls itself,
+ * directly or through others: the code alone bounds the stack that a call takes, whatever its input.
  */
 #ifndef FINIALBASIL_H
 #define FINIALBASIL_H
