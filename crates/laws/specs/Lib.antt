@@ -28,6 +28,10 @@ pub mod Wrote
 pub mod Writes
 pub mod Select
 pub mod Answers
+pub mod Renumbered
+pub mod Leaving
+pub mod LeftRows
+pub mod Merged
 pub mod Placing
 pub mod Rows
 pub mod Unread

@@ -67,8 +67,11 @@ pub group-fits : failsGroup 3 0 ≡ false
 unfolding opened
 group-fits = refl
 
-lowest : TermRecord T1 3 1
+pub lowest : TermRecord T1 3 1
 lowest = record { isAccepted = T1-accepted; below = omega (arith, five-records); isRecord = terms .0 }
+
+pub top : TermRecord T1 3 4
+top = record { isAccepted = T1-accepted; below = omega (arith, five-records); isRecord = terms .1 }
 
 lowest-asked : Asked T1 3 rowsV 1 0
 lowest-asked = record { ofTerm = lowest; rowsFit = rows-fit; groupFits = group-fits }

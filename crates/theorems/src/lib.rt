@@ -1,7 +1,7 @@
 // What is proved of the definitions of `model`: that they mean their sentences, and two sentences of SPECIFICATION,
 // "The calls". Each function does nothing: its `ensures` is a theorem. What is in quotation marks is a sentence of the
 // signed ones or of the specification. `signed` has the second and the third signed sentence, `parts` the parts of the
-// third.
+// third, `leaving` what is said of rows left out.
 ghost use mathlib.Core.Path.{_≡_};
 ghost use mathlib.Core.Logic.{_↔_};
 ghost use mathlib.Core.Bool.{Bool, true};
@@ -23,6 +23,7 @@ ghost use Rattle.laws.specs.Accepted.{Accepted};
 ghost use Rattle.laws.specs.AcceptedTerms.{AcceptedTerm};
 ghost use Rattle.theorems.specs.Asked.{Asked, Long, BeatenBy};
 
+pub mod leaving;
 pub mod parts;
 pub mod signed;
 

@@ -1,6 +1,6 @@
 -- Opens the definitions, file by file: a proof with `unfolding opened` computes with all of them.
 use Prim.Native.Nat.{ℕ}
-use Rattle.model.specs.Search.{anyBelow, findBelow, countBelow, anyIn, fill}
+use Rattle.model.specs.Search.{anyBelow, findBelow, countBelow, listBelow, anyIn, fill}
 use Rattle.model.specs.Bytes.{byteAt, wordAt, signed, numbers, bit, eqZ}
 use Rattle.model.specs.Record.{recordCount, kindAt, pAt, qAt, sAt, uAt, vAt, recordOf, recordAt, nearestTerm}
 use Rattle.model.specs.Record.{valuesOf}
@@ -17,11 +17,12 @@ use Rattle.model.specs.Query.{kept, answer, keptCount, rowCount, rowAt, 
 use Rattle.model.specs.Query.{failsShort, queryVerdict, queryReply, queryBuffer}
 use Rattle.model.specs.Perfect.{perfectReply}
 use Rattle.model.specs.Demand.{isChain, accepted, rewritten, leftFirst, rightFirst, equally, keeps, keepsAmong}
+use Rattle.model.specs.Leaving.{leftBelow, leftRows, oldNumber, keptRows, byCatalogue}
 use Rattle.model.specs.Pick.{text, digits, decimal, line, refusedText, okText, rowText, rowsText, failsFile}
 use Rattle.model.specs.Pick.{pickVerdict, pickBeats, answerText, pickText}
 
 unfoldable opened-Search : ℕ
-unfolding anyBelow findBelow countBelow anyIn fill
+unfolding anyBelow findBelow countBelow listBelow anyIn fill
 opened-Search = 0
 
 unfoldable opened-Bytes : ℕ
@@ -76,6 +77,10 @@ unfoldable opened-Demand : ℕ
 unfolding isChain accepted rewritten leftFirst rightFirst equally keeps keepsAmong
 opened-Demand = 0
 
+unfoldable opened-Leaving : ℕ
+unfolding leftBelow leftRows oldNumber keptRows byCatalogue
+opened-Leaving = 0
+
 unfoldable opened-Pick : ℕ
 unfolding text digits decimal line refusedText okText rowText rowsText failsFile pickVerdict pickBeats answerText pickText
 opened-Pick = 0
@@ -89,5 +94,5 @@ unfolding opened-Check-1 opened-Check-2 opened-Check-3
 opened-Check = 0
 
 unfoldable pub opened : ℕ
-unfolding opened-Tables opened-Check opened-Compare opened-Query opened-Perfect opened-Demand opened-Pick
+unfolding opened-Tables opened-Check opened-Compare opened-Query opened-Perfect opened-Demand opened-Leaving opened-Pick
 opened = 0
