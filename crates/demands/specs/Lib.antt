@@ -1,3 +1,5 @@
 pub mod Given
 pub mod Agreement
 pub mod Witness
+pub mod Leaving
+pub mod Gathered
