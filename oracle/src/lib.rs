@@ -4,6 +4,7 @@
 //! all rows, graph search for reachability, and the table of refusals as it stands.
 
 mod better;
+mod leaving;
 mod mistakes;
 mod perfect;
 mod pick;
@@ -12,6 +13,7 @@ mod refusals;
 mod table;
 mod wrong;
 
+pub use leaving::{Catalogue, Left};
 pub use mistakes::Mistake;
 use refusals::Asked;
 

@@ -77,6 +77,16 @@ mistakes! {
     HighestWitness: "The entry is the highest kept row that is better.",
     RefusalWrites: "A refused query writes the first entry.",
 
+    // Leaving out rows.
+    UnnamedGoes: "Leaving out: a kept row that no dropped row names may go too.",
+    LeftTurned: "Leaving out: the rows that are left are numbered the other way round.",
+    RunTurned: "Leaving out: the rows that are left stand the other way round, not their numbers.",
+    OldNumbers: "Leaving out: the entries go by the old numbers.",
+    NamedByCells: "Leaving out: the first row with the same cells is named.",
+    SecondFirst: "Two catalogues: the kept rows of the second come first.",
+    SecondFromZero: "Two catalogues: the second's rows are numbered from 0.",
+    EqualOnce: "Two catalogues: of equal kept rows, one in each, the second's goes.",
+
     // Perfect.
     DualsFromTop: "Perfect counts DUALs from the top of the table.",
     DualsNotCounted: "Perfect counts no DUALs.",
@@ -141,4 +151,19 @@ mistakes! {
     GroupBeforeTerm: "GROUP is judged before TERM.",
     ShortEqual: "SHORT: a buffer of exactly as many entries as rows is turned down.",
     ShortBeforeGroup: "SHORT is judged before GROUP.",
+}
+
+impl Mistake {
+    /// Those about rows that are left out. No reply of one call shows them: two
+    /// queries must be set against each other.
+    pub const LEAVING: &'static [Mistake] = &[
+        Mistake::UnnamedGoes,
+        Mistake::LeftTurned,
+        Mistake::RunTurned,
+        Mistake::OldNumbers,
+        Mistake::NamedByCells,
+        Mistake::SecondFirst,
+        Mistake::SecondFromZero,
+        Mistake::EqualOnce,
+    ];
 }

@@ -2,6 +2,7 @@
 //! answers only if the planted mistake concerns the question.
 
 use crate::better::{cell, distance, equal_in, in_edge, listed, reached, Pair};
+use crate::leaving::{Left, Numbered};
 use crate::query::Query;
 use crate::refusals::{
     both_parts_same, columns_of_both, earlier_edges, filler, reused_earlier, roles_of_clash,
@@ -162,6 +163,55 @@ pub fn unmatched(
         (Mistake::NoEnds, LOWEST | HIGHEST) => false,
         _ => return None,
     })
+}
+
+/// Whether no other row's entry is this row's number: so it is of dropped rows,
+/// but of some kept ones too.
+pub fn unnamed(entries: &[u16], i: usize) -> bool {
+    let mut others = (0..entries.len()).filter(|&other| other != i);
+    others.all(|other| usize::from(entries[other]) != i)
+}
+
+pub fn left<'a>(mistake: Mistake, left: &[Numbered<'a>]) -> Option<Vec<Numbered<'a>>> {
+    let turned = left.iter().rev().copied();
+    match mistake {
+        Mistake::LeftTurned => Some(turned.collect()),
+        Mistake::RunTurned => {
+            let rows = turned.map(|(_, row)| row);
+            let numbers = left.iter().map(|(number, _)| *number);
+            Some(numbers.zip(rows).collect())
+        }
+        _ => None,
+    }
+}
+
+pub fn entry_left(mistake: Mistake, left: &Left, named: usize) -> Option<usize> {
+    match mistake {
+        Mistake::OldNumbers => Some(named),
+        Mistake::NamedByCells => {
+            let columns = left.rows.len() / left.old.len();
+            let row = |i: usize| &left.rows[i * columns..(i + 1) * columns];
+            let named = left.renumbered(named)?;
+            (0..left.old.len()).find(|&i| row(i) == row(named))
+        }
+        _ => None,
+    }
+}
+
+pub fn together<'a>(
+    mistake: Mistake,
+    first: &[Numbered<'a>],
+    second: &[Numbered<'a>],
+) -> Option<Vec<Numbered<'a>>> {
+    let in_first = |row: &[i32]| first.iter().any(|(_, other)| *other == row);
+    match mistake {
+        Mistake::SecondFirst => Some([second, first].concat()),
+        Mistake::EqualOnce => {
+            let others = second.iter().filter(|(_, row)| !in_first(row));
+            Some(first.iter().chain(others).copied().collect())
+        }
+        _ => None,
+    }
 }
 
 pub fn length(mistake: Mistake, length: usize) -> Option<bool> {

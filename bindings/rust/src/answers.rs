@@ -33,7 +33,8 @@ impl Answer {
     }
 }
 
-/// What a query says of each row, as [`Query::run`](crate::Query::run) gives it.
+/// What a query says of each row, as [`Query::run`](crate::Query::run) gives it. Without some of the dropped rows it
+/// says the same of the others: see [leaving out dropped rows](crate#leaving-out-dropped-rows).
 ///
 /// ```
 /// use finialbasil::{Answer, Table};
@@ -83,7 +84,7 @@ impl Answers {
         self.kept
     }
 
-    /// The numbers of the kept rows, lowest first.
+    /// The numbers of the kept rows, lowest first. The same query over these rows alone keeps them all.
     pub fn kept(&self) -> impl Iterator<Item = usize> + '_ {
         self.iter()
             .enumerate()

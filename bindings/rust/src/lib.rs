@@ -64,6 +64,44 @@
 //! # Ok::<(), finialbasil::Refusal>(())
 //! ```
 //!
+//! # Leaving out dropped rows
+//!
+//! Take out dropped rows, some or all, and ask the same again: the same rows are kept, and each dropped row that is
+//! left names the same better row. The rows that are left are numbered from 0 again, in their old order. That is
+//! promised, for queries by groups too: an application may store the kept rows and forget the others.
+//!
+//! ```
+//! use finialbasil::{Answer, Table};
+//!
+//! let mut table = Table::new();
+//! let (price, weight) = (table.lowest(0)?, table.lowest(1)?);
+//! let wish = table.pareto(price, weight)?;
+//! let motors = [[95, 12], [90, 14], [80, 13], [85, 15]];
+//! let answers = table.query(wish).run(&motors)?;
+//! assert_eq!(answers.kept().collect::<Vec<_>>(), [0, 2]);
+//! assert_eq!(answers.get(3), Some(Answer::Dropped { by: 2 }));
+//!
+//! // Throw away the dropped motors that cost 90 or more: that is motor 1.
+//! let mut left = Vec::new();
+//! for (motor, answer) in motors.iter().zip(&answers) {
+//!     if answer.is_kept() || motor[0] < 90 {
+//!         left.push(*motor);
+//!     }
+//! }
+//! assert_eq!(left, [[95, 12], [80, 13], [85, 15]]);
+//!
+//! // Motor [80, 13] is row 1 among these. It is kept as before, and named as the one better than [85, 15] as before.
+//! let again = table.query(wish).run(&left)?;
+//! assert_eq!(again.kept().collect::<Vec<_>>(), [0, 1]);
+//! assert_eq!(again.get(2), Some(Answer::Dropped { by: 1 }));
+//! # Ok::<(), finialbasil::Refusal>(())
+//! ```
+//!
+//! Only dropped rows may go: without a kept row, a row that it betters may be kept. As a consequence, two catalogues
+//! can be queried separately and then their kept rows together. That keeps what one query over both keeps, provided
+//! both together have at most 1,024 rows. The law beneath has no such bound: a larger catalogue can be queried in
+//! parts, as above.
+//!
 //! # Two ways to the same calls
 //!
 //! - A [`Table`] is built here or read by [`Table::from_bytes`], and its methods take its [`Term`]s.

@@ -66,6 +66,29 @@ pub fn table(records: &[Bytes]) -> Vec<u8> {
     records.concat()
 }
 
+/// Table T1: 0 AROUND column 0 wish 0; 1 LOWEST column 1; 2 PARETO 0 1;
+/// 3 HIGHEST column 2; 4 PARETO 2 3.
+pub fn t1() -> Vec<u8> {
+    table(&[
+        around(0, 0),
+        base(LOWEST, 1),
+        compound(PARETO, 0, 1),
+        base(HIGHEST, 2),
+        compound(PARETO, 2, 3),
+    ])
+}
+
+/// Rows V (Example 2 of the report).
+pub const V: [[i32; 3]; 7] = [
+    [-5, 3, 4],
+    [-5, 4, 4],
+    [5, 1, 8],
+    [5, 6, 6],
+    [-6, 0, 6],
+    [-6, 0, 4],
+    [6, 2, 7],
+];
+
 /// Kept count and entries of a query that must not be refused.
 pub fn entries<const N: usize>(
     table: &[u8],

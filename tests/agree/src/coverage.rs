@@ -1,6 +1,7 @@
 //! What the inputs reached, counted as they are judged.
 
 use crate::input::{Asks, Call, Input};
+use crate::left::Leaving;
 use crate::library::{Lending, Placing, Reply};
 use crate::limits::{COLUMN_COUNTS, ROW_COUNTS, TERM_NUMBERS};
 use crate::memory::Flush;
@@ -60,6 +61,7 @@ pub struct Coverage {
     pub outcomes: [[u64; 4]; KINDS],
     pub marks: [[u64; 2]; KINDS],
     pub queries: Queries,
+    pub leaving: Leaving,
     pub lent: [Lengths; 5],
     pub one_row: u64,
     pub column_counts: [u64; COLUMN_COUNTS.len()],
@@ -97,6 +99,7 @@ impl Coverage {
             outcomes: [[0; 4]; KINDS],
             marks: [[0; 2]; KINDS],
             queries: Queries::default(),
+            leaving: Leaving::default(),
             lent: Default::default(),
             one_row: 0,
             column_counts: [0; COLUMN_COUNTS.len()],

@@ -4,6 +4,7 @@ use crate::compare::{difference, earned, expected, words};
 use crate::coverage::Coverage;
 use crate::generator;
 use crate::input::{Asks, Input};
+use crate::leaving::{self, Failure, Way};
 use crate::library::{Reply, Room};
 use crate::mistakes::Mistakes;
 use crate::replay::Replay;
@@ -11,7 +12,7 @@ use crate::report;
 use crate::shrink;
 use crate::signal;
 use crate::Plan;
-use oracle::Oracle;
+use oracle::{Left, Oracle};
 
 /// Runs all inputs. The first that differs is made smaller, printed, and ends them. Gives what went wrong.
 pub fn inputs(plan: &Plan) -> Vec<String> {
@@ -36,6 +37,13 @@ pub fn inputs(plan: &Plan) -> Vec<String> {
             replay.note(&input, *call, &given);
             mistakes.judge(number, &input, &given);
         }
+        let seen = |way: &Way, left: &Left| coverage.leaving.note(&input, &right, way, left);
+        if let Some(failure) = leaving::failure(&oracle, &mut room, &input, &right, seen) {
+            print_smallest_left(&oracle, &mut room, &input);
+            let Failure { way, words } = failure;
+            return vec![format!("input {number}, {way}: {words}")];
+        }
+        mistakes.judge_left(number, &input, &right, &mut room);
         note(&mut coverage, &input, &right);
     }
     let calls: u64 = coverage.calls.iter().sum();
@@ -69,18 +77,13 @@ fn note(coverage: &mut Coverage, input: &Input, right: &Reply) {
 }
 
 fn print_smallest(oracle: &Oracle, room: &mut Room, input: &Input) {
-    let mut fails = |input: &Input| {
+    let small = smallest(input, &mut |input| {
         let right = expected(oracle, input);
         let calls = input.asks.calls();
         calls
             .iter()
             .any(|call| difference(input, &right, &room.call(input, *call)).is_some())
-    };
-    let small = shrink::smallest(input, &mut fails);
-    assert!(fails(&small), "made smaller, the input no longer fails");
-    let (from, to) = (shrink::length(input), shrink::length(&small));
-    println!("the smallest input found that fails, made smaller from {from} to {to} bytes:");
-    shrink::print(&small);
+    });
     let right = expected(oracle, &small);
     println!("expected: {}, entries {:?}", words(&right), right.answers);
     for call in small.asks.calls() {
@@ -92,4 +95,26 @@ fn print_smallest(oracle: &Oracle, room: &mut Room, input: &Input) {
             given.answers
         );
     }
+}
+
+fn print_smallest_left(oracle: &Oracle, room: &mut Room, input: &Input) {
+    let mut failure = |input: &Input| {
+        let whole = expected(oracle, input);
+        let failure = leaving::failure(oracle, room, input, &whole, |_, _| ());
+        failure.map(|failure| (whole, failure))
+    };
+    let small = smallest(input, &mut |input| failure(input).is_some());
+    let (whole, Failure { way, words }) = failure(&small).expect("a failure");
+    println!("entries over all rows: {:?}", whole.answers);
+    println!("{way}\n{words}");
+}
+
+/// Makes the input smaller as long as it fails, and prints it.
+fn smallest(input: &Input, fails: &mut dyn FnMut(&Input) -> bool) -> Input {
+    let small = shrink::smallest(input, fails);
+    assert!(fails(&small), "made smaller, the input no longer fails");
+    let (from, to) = (shrink::length(input), shrink::length(&small));
+    println!("the smallest input found that fails, made smaller from {from} to {to} bytes:");
+    shrink::print(&small);
+    small
 }

@@ -1,7 +1,8 @@
 //! Random inputs by every call: the compiled library against the oracle, with what was reached printed and asserted.
 //!
-//! `agree [--replay FILE] [--pick PROGRAM]` runs; `agree --show NUMBER` prints one input. FINIALBASIL_SEED sets the
-//! seed, FINIALBASIL_INPUTS the number of inputs. It ends with status 0 only if all agrees and all is reached.
+//! `agree [--replay FILE] [--pick PROGRAM]` runs; `agree --show NUMBER` prints one input, and which rows it is to leave
+//! out. FINIALBASIL_SEED sets the seed, FINIALBASIL_INPUTS the number of inputs. It ends with status 0 only if all
+//! agrees and all is reached.
 
 mod compare;
 mod coverage;
@@ -10,6 +11,8 @@ mod faults;
 mod generator;
 mod input;
 mod judge;
+mod leaving;
+mod left;
 mod library;
 mod limits;
 mod memory;
@@ -57,7 +60,9 @@ fn main() -> ExitCode {
     let seed = number("FINIALBASIL_SEED", SEED);
     if let [flag, which] = &words[..] {
         if flag == "--show" {
-            shrink::print(&generator::input(seed, which.parse().expect("a number")));
+            let input = generator::input(seed, which.parse().expect("a number"));
+            shrink::print(&input);
+            leaving::print(&input);
             return ExitCode::SUCCESS;
         }
     }

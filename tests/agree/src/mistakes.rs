@@ -2,7 +2,8 @@
 
 use crate::compare::expected;
 use crate::input::Input;
-use crate::library::Reply;
+use crate::leaving;
+use crate::library::{Reply, Room};
 use oracle::{Mistake, Oracle};
 
 /// The mistakes told apart so far, and those that are not.
@@ -28,6 +29,22 @@ impl Mistakes {
                 told.push((*mistake, number, input.asks.words()));
             }
             same
+        });
+    }
+
+    /// Leaves rows out of the query as each mistake about that has it, and compares what it says with what the library
+    /// gives.
+    pub fn judge_left(&mut self, number: u64, input: &Input, whole: &Reply, room: &mut Room) {
+        let told = &mut self.told;
+        self.left.retain(|mistake| {
+            if !Mistake::LEAVING.contains(mistake) {
+                return true;
+            }
+            let failure = leaving::failure(&mistaken(*mistake), room, input, whole, |_, _| ());
+            if let Some(failure) = &failure {
+                told.push((*mistake, number, failure.way.words()));
+            }
+            failure.is_none()
         });
     }
 

@@ -3,6 +3,7 @@
 use crate::coverage::{Coverage, Lengths, Terms, PIECES, REFUSALS};
 use crate::faults;
 use crate::input::{Asks, Call, Origin};
+use crate::left::{Out, Split};
 use crate::limits::{COLUMN_COUNTS, ROW_COUNTS, TERM_NUMBERS};
 use crate::order;
 use crate::records::*;
@@ -11,6 +12,10 @@ use crate::records::*;
 const MANY: u64 = 100;
 /// For what costs much, or comes in three lists only.
 const SOME: u64 = 10;
+/// For the largest queries with rows left out: not every one has a dropped row.
+const FEW: u64 = 5;
+/// For queries that lose a row, and for those that are split between two rows.
+const LEFT: u64 = 50_000;
 
 /// What is missing, one line each.
 struct Needs(Vec<String>);
@@ -36,6 +41,8 @@ pub fn report(coverage: &Coverage) -> Vec<String> {
     }
     outcomes(coverage, &mut needs);
     queries(coverage, &mut needs);
+    left_out(&coverage.leaving.out, &mut needs);
+    catalogues(&coverage.leaving.split, &mut needs);
     numbers(coverage, &mut needs);
     for (lengths, piece) in coverage.lent.iter().zip(PIECES) {
         lent(lengths, piece, &mut needs);
@@ -204,6 +211,50 @@ fn queries(coverage: &Coverage, needs: &mut Needs) {
         "groups that change an entry".to_string()
     });
     needs.at_least(MANY, queries.dropped, || "dropped rows".to_string());
+}
+
+fn left_out(left: &Out, needs: &mut Needs) {
+    let counts = [
+        (MANY, left.none, "no row taken out"),
+        (LEFT, left.some + left.all, "a row or more taken out"),
+        (MANY, left.some, "some dropped rows taken out"),
+        (MANY, left.all, "all dropped rows taken out"),
+        (MANY, left.ungrouped, "without groups"),
+        (MANY, left.grouped, "with groups"),
+        (MANY, left.renumbered, "a named row's number changes"),
+        (MANY, left.renumbered_in_groups, "the same with groups"),
+        (MANY, left.part_asked, "a term that is not the top"),
+        (MANY, left.over_64, "over 64 rows left"),
+        (FEW, left.most_rows, "1,024 rows before"),
+    ];
+    listed("rows left out", &counts, needs);
+}
+
+fn catalogues(apart: &Split, needs: &mut Needs) {
+    let counts = [
+        (MANY, apart.first_empty, "no row in the first"),
+        (MANY, apart.second_empty, "no row in the second"),
+        (LEFT, apart.both, "rows in both"),
+        (MANY, apart.ungrouped, "without groups"),
+        (MANY, apart.grouped, "with groups"),
+        (MANY, apart.beaten, "a row kept apart, dropped together"),
+        (MANY, apart.beaten_in_groups, "the same with groups"),
+        (MANY, apart.equal, "equal rows, one in each, both kept"),
+        (MANY, apart.renumbered, "a named row's number changes"),
+        (MANY, apart.part_asked, "a term that is not the top"),
+        (MANY, apart.over_64, "over 64 rows kept apart"),
+        (FEW, apart.most_rows, "1,024 rows in both"),
+    ];
+    listed("two catalogues", &counts, needs);
+}
+
+/// How many are needed, how many were found, and of what.
+fn listed(name: &str, counts: &[(u64, u64, &str)], needs: &mut Needs) {
+    println!("{name}:");
+    for (least, count, what) in counts {
+        println!("  {what:40}{count:8}");
+        needs.at_least(*least, *count, || format!("{name}: {what}"));
+    }
 }
 
 fn numbers(coverage: &Coverage, needs: &mut Needs) {

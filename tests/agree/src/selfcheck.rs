@@ -145,10 +145,15 @@ fn wrong_picks() -> Vec<String> {
 }
 
 /// With a mistaken oracle in the place of the right one a run must end as failed and print the smallest input found.
+/// Tried are some mistakes about calls, and all about rows that are left out.
 fn failing_runs(seed: u64) -> Vec<String> {
     let program = std::env::current_exe().expect("the program's own path");
     let mut wrong = vec![];
-    for which in [0, Mistake::ALL.len() / 2, Mistake::ALL.len() - 1] {
+    let calls = [0, Mistake::ALL.len() / 2, Mistake::ALL.len() - 1];
+    let leaving = Mistake::LEAVING
+        .iter()
+        .filter_map(|mistake| Mistake::ALL.iter().position(|other| other == mistake));
+    for which in calls.into_iter().chain(leaving) {
         let mut child = Command::new(&program);
         child.args([MISTAKE, &which.to_string()]);
         child.env("FINIALBASIL_SEED", seed.to_string());
