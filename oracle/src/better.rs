@@ -181,5 +181,5 @@ pub fn reached(edges: &[Record], x: i32, y: i32) -> bool {
         }
         false
     }
-    search(edges, &mut [false; MOST_RECORDS], x, y)
+    search(edges, &mut vec![false; edges.len()], x, y)
 }

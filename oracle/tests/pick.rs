@@ -9,16 +9,6 @@ use std::fs;
 use std::path::{Path, PathBuf};
 use std::process::Command;
 
-const V: [[i32; 3]; 7] = [
-    [-5, 3, 4],
-    [-5, 4, 4],
-    [5, 1, 8],
-    [5, 6, 6],
-    [-6, 0, 6],
-    [-6, 0, 4],
-    [6, 2, 7],
-];
-
 const T1_OVER_V: &str = "\
 ok 5 3 3
 0 keep
@@ -29,16 +19,6 @@ ok 5 3 3
 5 drop 4
 6 drop 2
 ";
-
-fn t1() -> Vec<u8> {
-    table(&[
-        around(0, 0),
-        base(LOWEST, 1),
-        compound(PARETO, 0, 1),
-        base(HIGHEST, 2),
-        compound(PARETO, 2, 3),
-    ])
-}
 
 fn lines(prefs: &[u8], rows: &[u8]) -> String {
     Oracle::default().pick(prefs, rows)

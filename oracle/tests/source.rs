@@ -59,18 +59,9 @@ fn example_4_pareto_before_highest() {
         base(HIGHEST, 2),
         compound(PRIOR, 2, 3),
     ]);
-    let rows = [
-        [-5, 3, 4],
-        [-5, 4, 4],
-        [5, 1, 8],
-        [5, 6, 6],
-        [-6, 0, 6],
-        [-6, 0, 4],
-        [6, 2, 7],
-    ];
     // Of the rows 4 and 5, equal in the PARETO's columns, column 2 decides.
-    assert_eq!(entries(&p9, 4, 0, &rows), (3, vec![0, 0, 2, 2, 4, 4, 2]));
-    assert_eq!(entries(&p9, 2, 0, &rows), (4, vec![0, 0, 2, 2, 4, 5, 2]));
+    assert_eq!(entries(&p9, 4, 0, &V), (3, vec![0, 0, 2, 2, 4, 4, 2]));
+    assert_eq!(entries(&p9, 2, 0, &V), (4, vec![0, 0, 2, 2, 4, 5, 2]));
 }
 
 #[test]

@@ -20,8 +20,8 @@ use Rattle.laws.specs.Search.{any-ext, count-ext, count-bound}
 use Rattle.laws.specs.Renumbered.{list-ext, old-is}
 use Rattle.laws.specs.LeftRows.{left-ext}
 use Rattle.laws.specs.Merged.{rows-of, left-rows-length}
-use Rattle.demands.specs.Witness.{Answers}
-use Rattle.demands.specs.Leaving.{byReply, sameEntry, sameByNumber, sameAnswers, queriedTwice, sameTwice}
+use Rattle.demands.specs.Witness.{Answers, byReply}
+use Rattle.demands.specs.Leaving.{sameEntry, sameByNumber, sameAnswers, queriedTwice, sameTwice}
 use Rattle.demands.specs.Gathered.{Gathered, OldNumbers}
 use Rattle.demands.proofs.Witnesses.{replied-answers}
 
@@ -121,7 +121,7 @@ module _ (columns : ℕ) (rows : List ℤ) (stays : ℕ → Bool) (m : ℕ) (lef
 
 module _ (columns : ℕ) (rows : List ℤ) (p q : ℕ → Bool) (agree : (i : ℕ) → i < rowCount columns rows → p i ≡ q i) where
   -- They leave the same rows,
-  pub left-rows-ext : leftRows columns rows p ≡ leftRows columns rows q
+  left-rows-ext : leftRows columns rows p ≡ leftRows columns rows q
   unfolding leftRows
   left-rows-ext = left-ext columns rows rows p q (rowCount columns rows) (λ i h. refl) agree
 
@@ -133,7 +133,7 @@ module _ (columns : ℕ) (rows : List ℤ) (p q : ℕ → Bool) (agree : (i : �
         rw (left-rows-ext, list-ext (rowCount columns rows) p q agree, count-ext (rowCount columns rows) p q agree)
 
     -- and have the same answers.
-    pub twice-ext : (before : List ℕ) → sameTwice table columns rows term group p total entries before
+    twice-ext : (before : List ℕ) → sameTwice table columns rows term group p total entries before
         ≡ sameTwice table columns rows term group q total entries before
     unfolding sameTwice
     twice-ext before =

@@ -13,14 +13,11 @@ use lib.Seq.{length-take-le}
 use borrow.Author.Tests.{ltb-true, lt-ltb, eq-eqb}
 use Rattle.model.specs.declared.{QueryReply.QueryReply}
 use Rattle.model.specs.Search.{countBelow, listBelow}
-use Rattle.model.specs.Term.{termAt}
-use Rattle.model.specs.Query.{rowCount, beatsIn, queryReply, queryBuffer}
+use Rattle.model.specs.Query.{rowCount, queryReply, queryBuffer}
 use Rattle.model.specs.Demand.{keeps}
 use Rattle.model.specs.Leaving.{leftRows, oldNumber, byCatalogue}
 use Rattle.laws.specs.Bools.{and-i, or-l, not-both, on-or-off}
 use Rattle.laws.specs.Search.{none-i, count-bound}
-use Rattle.laws.specs.Answers.{answer-row}
-use Rattle.laws.specs.Rows.{beats-strict}
 use Rattle.laws.specs.Query as query
 use Rattle.laws.specs.Merged.{rows-of, left-rows-count}
 use Rattle.theorems.specs.Asked.{Asked, Long}
@@ -28,7 +25,7 @@ use Rattle.theorems.specs.LeftOut.{SameAnswers}
 use Rattle.theorems.specs.Leaving.{some-column, rows-whole, rows-few, asked-of, query-asked, leaving-out}
 use Rattle.theorems.specs.Merged.{kept-in-own}
 use Rattle.demands.specs.Leaving.{sameEntry, sameByNumber, sameAnswers, sameTwice}
-use Rattle.demands.specs.Leaving.{spared, leftOut, firstCount, keptApart, merges}
+use Rattle.demands.specs.Leaving.{spared, leftOut, firstCount, keptBySplit, merges}
 
 -- ---- the rows that are left, queried again
 
@@ -64,20 +61,11 @@ module _ (table : List ℕ) (columns : ℕ) (rows : List ℤ) (term group : ℕ)
     passed : query.Asked table columns left term group b
     passed = query-asked table columns left term group (same .isAsked) b room
 
-    -- Each entry is the number of one of them,
-    entry-below : (i : ℕ) → i < m → getD again i 0 < m
-    entry-below i h =
-        let k : i < rowCount columns left = rw (same .isCount) h in
-        let o = beats-strict columns left group (termAt table term) (passed .strict) in
-        let e = query.entry table columns left term group b passed i 0 k in
-        let w = answer-row (beatsIn (termAt table term) columns left group) o (rowCount columns left) i k in
-        omega (arith, e, w, same .isCount)
-
-    -- with the old number of the entry that the row had.
+    -- Each entry is the number of one of them, with the old number of the entry that the row had.
     entry-same : (i : ℕ) → i < m → sameEntry (listBelow n stays) m entries again i ≡ true
     unfolding sameEntry oldNumber
     entry-same i h =
-        and-i (lt-ltb (getD again i 0) m (entry-below i h)) (eq-eqb _ _ (same .sameEntry i h))
+        and-i (lt-ltb (getD again i 0) m (same .isEntry i h)) (eq-eqb _ _ (same .sameEntry i h))
 
     -- So says the test of a query,
     answers-same : (total : ℕ) → queryReply table columns rows term group a ≡ QueryReply.Kept total
@@ -193,8 +181,8 @@ module _ (table : List ℕ) (columns : ℕ) (rows : List ℤ) (split term group 
 
   -- What a query over both keeps stays.
   apart-stays : (i : ℕ) → i < rowsOfBoth → keeps table columns rows term group a i ≡ true
-      → keptApart table columns rows c term group i ≡ true
-  unfolding keptApart
+      → keptBySplit table columns rows c term group i ≡ true
+  unfolding keptBySplit
   apart-stays =
       own-keeps table columns rows (take (c * columns) rows) (drop (c * columns) rows) c (rowsOfBoth - c) term group
       asked (take-append-drop (c * columns) rows)
@@ -210,5 +198,5 @@ module _ (table : List ℕ) (columns : ℕ) (rows : List ℤ) (split term group 
       let q = query-asked table columns rows term group asked a long in
       let e = query.passed-reply table columns rows term group a q in
       rw e
-      (twice-same table columns rows term group asked a long (keptApart table columns rows c term group) apart-stays
+      (twice-same table columns rows term group asked a long (keptBySplit table columns rows c term group) apart-stays
       b room _ e)

@@ -16,7 +16,7 @@ use Rattle.model.specs.Demand.{keeps}
 use Rattle.model.specs.Leaving.{byCatalogue}
 use Rattle.laws.specs.Bools.{on-or-off}
 use Rattle.laws.specs.Wrote.{Wrote}
-use Rattle.demands.specs.Leaving.{holdsOwn, marked, spared, keptApart}
+use Rattle.demands.specs.Leaving.{holdsOwn, marked, spared, keptBySplit}
 use Rattle.demands.specs.Gathered.{Run}
 
 -- An entry that is there is the same whatever stands for one that is not.
@@ -26,7 +26,7 @@ any-default (x ∷ xs) zero d e h = refl
 any-default (x ∷ xs) (suc i) d e h = any-default xs i d e (omega arith)
 
 -- The first n marks that were written.
-pub marks-made : (f : ℕ → Bool) (n : ℕ) (before after : List Bool) → Wrote false f 0 n before after
+marks-made : (f : ℕ → Bool) (n : ℕ) (before after : List Bool) → Wrote false f 0 n before after
     → (i : ℕ) → i < n → marked after i ≡ f i
 unfolding marked
 marks-made f n before after w i h = let z : 0 + i ≡ i = omega arith in rw z at (w .made i h)
@@ -67,8 +67,8 @@ pub marks-apart : (table : List ℕ) (columns : ℕ) (rows : List ℤ) (n first 
     → Wrote false (holdsOwn e) 0 first unmarked some
     → e′ ≡ queryBuffer table columns (take (length rows - first * columns) (drop (first * columns) rows)) term group e
     → Wrote false (holdsOwn e′) first (n - first) some all
-    → (i : ℕ) → i < n → marked all i ≡ keptApart table columns rows first term group i
-unfolding marked keptApart byCatalogue
+    → (i : ℕ) → i < n → marked all i ≡ keptBySplit table columns rows first term group i
+unfolding marked keptBySplit byCatalogue
 marks-apart table columns rows n first term group e e′ unmarked some all q w q′ w′ i h =
     let zeros : List ℕ = replicate 1024 0 in
     let d : e′ ≡ queryBuffer table columns (drop (first * columns) rows) term group e =

@@ -5,16 +5,11 @@ use Prim.Native.Nat.{ℕ, suc, _*_}
 use lib.Dec.{ltb, eqb}
 use lib.IntN.{ℤ}
 use lib.ListN.{getD, take, drop, replicate}
-use Rattle.model.specs.declared.{QueryReply.QueryReply}
 use Rattle.model.specs.Search.{anyBelow, countBelow, listBelow}
 use Rattle.model.specs.Query.{rowCount, queryReply, queryBuffer}
 use Rattle.model.specs.Demand.{keeps}
 use Rattle.model.specs.Leaving.{leftRows, byCatalogue}
-
--- What is so of the kept count; what is said instead where Query refuses.
-abbrev pub byReply : {A : Type 0} → QueryReply → (ℕ → A) → A → A
-byReply (QueryReply.Kept total) so refused = so total
-byReply (QueryReply.Refused why) so refused = refused
+use Rattle.demands.specs.Witness.{byReply}
 
 -- Entry i is i.
 unfoldable pub holdsOwn : List ℕ → ℕ → Bool
@@ -88,8 +83,8 @@ firstCount columns rows split = let n = rowCount columns rows in cond (ltb split
 
 -- The rows kept by "querying two catalogues separately", the first n rows and the others; the buffer, zeros at first,
 -- is used for both.
-unfoldable pub keptApart : List ℕ → ℕ → List ℤ → ℕ → ℕ → ℕ → ℕ → Bool
-keptApart table columns rows n term group =
+unfoldable pub keptBySplit : List ℕ → ℕ → List ℤ → ℕ → ℕ → ℕ → ℕ → Bool
+keptBySplit table columns rows n term group =
     let first = take (n * columns) rows in
     let zeros : List ℕ = replicate 1024 0 in
     byCatalogue n (keeps table columns first term group zeros)
@@ -100,7 +95,7 @@ unfoldable pub merges : List ℕ → ℕ → List ℤ → ℕ → ℕ → ℕ �
 merges table columns rows split term group a b =
     byReply (queryReply table columns rows term group a)
     (λ total. sameTwice table columns rows term group
-    (keptApart table columns rows (firstCount columns rows split) term group) total
+    (keptBySplit table columns rows (firstCount columns rows split) term group) total
     (queryBuffer table columns rows term group a) b)
     false
 
@@ -109,5 +104,5 @@ unfoldable pub mergesBuffer : List ℕ → ℕ → List ℤ → ℕ → ℕ → 
 mergesBuffer table columns rows split term group a b =
     byReply (queryReply table columns rows term group a)
     (λ total. queriedTwice table columns
-    (leftRows columns rows (keptApart table columns rows (firstCount columns rows split) term group)) term group b)
+    (leftRows columns rows (keptBySplit table columns rows (firstCount columns rows split) term group)) term group b)
     b

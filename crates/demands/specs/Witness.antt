@@ -39,10 +39,14 @@ unfoldable pub allWitnessed : List ℕ → ℕ → List ℤ → ℕ → ℕ → 
 allWitnessed table columns rows n term group answers =
     not (anyBelow n (λ i. not (witnessed table columns rows n term group answers i)))
 
+-- What is so of the kept count; what is said instead where Query refuses.
+abbrev pub byReply : {A : Type 0} → QueryReply → (ℕ → A) → A → A
+byReply (QueryReply.Kept total) so refused = so total
+byReply (QueryReply.Refused why) so refused = refused
+
 -- What is so where Query refused nothing; false where it refused.
 abbrev pub whereKept : QueryReply → Bool → Bool
-whereKept (QueryReply.Kept total) so = so
-whereKept (QueryReply.Refused why) so = false
+whereKept reply so = byReply reply (λ total. so) false
 
 -- Of Query's reply and of what it leaves in the buffer: it refused nothing, and every row is kept or has its witness.
 unfoldable pub queryWitnessed : List ℕ → ℕ → List ℤ → ℕ → ℕ → List ℕ → Bool

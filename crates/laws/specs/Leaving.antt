@@ -15,7 +15,7 @@ use Rattle.laws.specs.Bools.{and-i, and-r, on-or-off, same-test}
 use Rattle.laws.specs.Order.{Rel, Strict}
 use Rattle.laws.specs.Search.{count-ext}
 use Rattle.laws.specs.Select.{kept-i, kept-e, dropped-beaten}
-use Rattle.laws.specs.Answers.{answer-kept, answer-lowest}
+use Rattle.laws.specs.Answers.{answer-kept, answer-lowest, answer-row}
 use Rattle.laws.specs.Renumbered.{old-is, new-of, old-rising, count-left}
 
 -- Row j beats row i, by their numbers among those that are left.
@@ -63,6 +63,10 @@ module _ (beats : Rel ℕ) (strict : Strict beats) (n : ℕ) (stays : ℕ → Bo
       ∙ count-left n stays (kept n beats)
       ∙ count-ext n (λ k. stays k && kept n beats k) (kept n beats)
       (λ k h. same-test (stays k && kept n beats k) (kept n beats k) (λ e. and-r (stays k) _ e) (λ e. and-i (holds k h e) e))
+
+  -- each entry is the number of a row that is left,
+  pub answer-is-left : (i : ℕ) → i < m → answer m left i < m
+  answer-is-left i h = answer-row left left-strict m i h
 
   -- and each remaining dropped row names the same better row.
   pub answer-left : (i : ℕ) → i < m → old (answer m left i) ≡ answer n beats (old i)

@@ -22,7 +22,7 @@ use Rattle.laws.specs.Renumbered.{list-length}
 
 module _ (w : ℕ) where
   -- A row of the run has w cells.
-  pub row-size : (run : List ℤ) (n : ℕ) → suc n * w ≤ length run → length (rowAt w run n) ≡ w
+  row-size : (run : List ℤ) (n : ℕ) → suc n * w ≤ length run → length (rowAt w run n) ≡ w
   unfolding rowAt
   row-size run n h = length-take-le w (drop (n * w) run) (omega (arith, length-drop (n * w) run))
 
@@ -43,7 +43,7 @@ module _ (w : ℕ) where
         ap (take w) (rw q (drop-append-add a b (i * w)))
 
     -- which is that row itself if it has one.
-    pub row-last : length b ≡ w → rowAt w (a ++ b) c ≡ b
+    row-last : length b ≡ w → rowAt w (a ++ b) c ≡ b
     unfolding rowAt
     row-last f = ap (take w) (drop-at a b (c * w) e) ∙ take-all w b (omega (arith, f))
 

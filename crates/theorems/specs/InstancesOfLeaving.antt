@@ -1,5 +1,5 @@
 -- The theorems of src/leaving.rt on table T1 and rows V of the specification ("Worked cases"), with every hypothesis
--- computed: none of them is empty. Assumes nothing.
+-- computed, or proved where it is that the order is strict: none of them is empty. Assumes nothing.
 use mathlib.Core.Path.{_≡_, refl, sym, _∙_, ap}
 use mathlib.Core.Logic.{⊎-elim}
 use mathlib.Core.Bool.{Bool, true, false, not, _&&_, false≢true}
@@ -125,6 +125,21 @@ two-catalogues =
     (record { ofTerm = top; rowsFit = four-fit; groupFits = group-fits })
     (omega (arith, three-rows, four-rows)) seven seven (omega (arith, three-rows)) (omega (arith, four-rows))
     seven seven long (omega (arith, five-together))
+
+-- Record 1, in the groups of column 0.
+six-together : rowCount 3 (together T1 3 three four 1 1 seven seven) ≡ 6
+unfolding opened
+six-together = refl
+
+pub grouped-catalogues : Asked T1 3 rowsV 1 1
+    × (keptRows T1 3 (together T1 3 three four 1 1 seven seven) 1 1 seven ≡ keptRows T1 3 rowsV 1 1 seven)
+    × (together T1 3 three four 1 1 seven seven ≡ leftRows 3 rowsV (keptApart T1 3 three four 1 1 seven seven))
+    × SameAnswers T1 3 rowsV 1 1 (keptApart T1 3 three four 1 1 seven seven) seven seven
+grouped-catalogues =
+    merged-keeps T1 3 three four 1 1 (record { ofTerm = lowest; rowsFit = three-fit; groupFits = grouped-fits })
+    (record { ofTerm = lowest; rowsFit = four-fit; groupFits = grouped-fits })
+    (omega (arith, three-rows, four-rows)) seven seven (omega (arith, three-rows)) (omega (arith, four-rows))
+    seven seven long (omega (arith, six-together))
 
 -- ---- any rows, any relation: those of the top over V
 

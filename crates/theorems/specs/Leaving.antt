@@ -19,12 +19,14 @@ use Rattle.model.specs.Leaving.{leftRows, oldNumber, keptRows}
 use Rattle.laws.specs.Members.{or-off}
 use Rattle.laws.specs.Order.{Rel, Strict}
 use Rattle.laws.specs.Search.{count-bound}
+use Rattle.laws.specs.Answers.{answer-row}
+use Rattle.laws.specs.Rows.{beats-strict}
 use Rattle.laws.specs.Query as query
 use Rattle.laws.specs.AcceptedTable.{accepted-table}
 use Rattle.laws.specs.Strict.{ordered}
 use Rattle.laws.specs.Taken.{taken-asked, taken-sound}
 use Rattle.laws.specs.Renumbered.{old-is, new-of, old-rising}
-use Rattle.laws.specs.Leaving.{kept-left, count-kept-left, answer-left, keptInOwn, rowsOfAll, own-holds}
+use Rattle.laws.specs.Leaving.{kept-left, count-kept-left, answer-is-left, answer-left, keptInOwn, rowsOfAll, own-holds}
 use Rattle.laws.specs.LeftRows.{left-row, left-ext}
 use Rattle.laws.specs.Merged.{beatsOver, keptOf, worseIn, worse-strict, beats-over, kept-again, count-again, rows-again, answer-again}
 use Rattle.laws.specs.Merged.{whole-rows, rows-of, left-rows-length, left-rows-count}
@@ -35,7 +37,7 @@ use Rattle.theorems.specs.LeftOut.{Renumbered, SameAnswers, SameAnswersO
 
 -- ---- any rows, any relation
 
-pub renumbered : (n : ℕ) (stays : ℕ → Bool) → Renumbered n stays
+renumbered : (n : ℕ) (stays : ℕ → Bool) → Renumbered n stays
 renumbered n stays =
     record {
       isLeft = λ i h. let o = old-is n stays i h in (o .row, o .stays);
@@ -50,6 +52,7 @@ left-out-of n beats strict stays holds =
       numbers = renumbered n stays;
       sameCount = count-kept-left beats strict n stays holds;
       sameKept = kept-left beats strict n stays holds;
+      isEntry = answer-is-left beats strict n stays holds;
       sameEntry = answer-left beats strict n stays holds;
     }
 
@@ -193,6 +196,14 @@ module _ (table : List ℕ) (columns : ℕ) (rows : List ℤ) (term group : ℕ)
       ∙ kept-again worse strict columns rows n (omega (arith, whole)) stays all-stay i h
       ∙ sym (keeps-rows (oldNumber n stays i) (old-is n stays i h .row))
 
+  is-entry : (i : ℕ) → i < m → getD (queryBuffer table columns left term group b) i 0 < m
+  is-entry i h =
+      let k : i < rowCount columns left = rw left-count h in
+      let o = beats-strict columns left group (termAt table term) (after .strict) in
+      let e = query.entry table columns left term group b after i 0 k in
+      let w = answer-row (beatsIn (termAt table term) columns left group) o (rowCount columns left) i k in
+      omega (arith, e, w, left-count)
+
   same-entry : (i : ℕ) → i < m
       → oldNumber n stays (getD (queryBuffer table columns left term group b) i 0)
       ≡ getD (queryBuffer table columns rows term group a) (oldNumber n stays i) 0
@@ -237,5 +248,6 @@ module _ (table : List ℕ) (columns : ℕ) (rows : List ℤ) (term group : ℕ)
         sameReply = same-reply;
         sameRows = same-rows;
         sameKept = same-kept;
+        isEntry = is-entry;
         sameEntry = same-entry;
       }

@@ -39,7 +39,11 @@ pub record SameAnswers (table : List ℕ) (columns : ℕ) (rows : List ℤ) (ter
   pub sameKept : (i : ℕ) → i < countBelow (rowCount columns rows) stays
       → keeps table columns (leftRows columns rows stays) term group b i
       ≡ keeps table columns rows term group a (oldNumber (rowCount columns rows) stays i)
-  -- "Each remaining dropped row names the same better row"; a kept row's entry is its own number in both.
+  -- "Each remaining dropped row names the same better row": each entry is the number of a row that is left, and its old
+  -- number is the entry that the row had. A kept row's entry is its own number in both.
+  pub isEntry : (i : ℕ) → i < countBelow (rowCount columns rows) stays
+      → getD (queryBuffer table columns (leftRows columns rows stays) term group b) i 0
+      < countBelow (rowCount columns rows) stays
   pub sameEntry : (i : ℕ) → i < countBelow (rowCount columns rows) stays
       → oldNumber (rowCount columns rows) stays
       (getD (queryBuffer table columns (leftRows columns rows stays) term group b) i 0)
@@ -51,6 +55,8 @@ pub record SameAnswersOf (n : ℕ) (beats : ℕ → ℕ → Bool) (stays : ℕ �
   pub sameCount : keptCount (countBelow n stays) (leftBeats n stays beats) ≡ keptCount n beats
   pub sameKept : (i : ℕ) → i < countBelow n stays
       → kept (countBelow n stays) (leftBeats n stays beats) i ≡ kept n beats (oldNumber n stays i)
+  pub isEntry : (i : ℕ) → i < countBelow n stays
+      → answer (countBelow n stays) (leftBeats n stays beats) i < countBelow n stays
   pub sameEntry : (i : ℕ) → i < countBelow n stays
       → oldNumber n stays (answer (countBelow n stays) (leftBeats n stays beats) i)
       ≡ answer n beats (oldNumber n stays i)

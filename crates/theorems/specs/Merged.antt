@@ -56,7 +56,7 @@ module _ (table : List ℕ) (columns : ℕ) (first second : List ℤ) (term grou
   both-count = rows-of columns column both (c + d) both-whole
 
   -- Query takes both together.
-  pub both-asked : Asked table columns both term group
+  both-asked : Asked table columns both term group
   both-asked = asked-of table columns first term group asked both (c + d) both-whole few
 
   -- Kept apart, by the order of rows.
@@ -80,7 +80,7 @@ module _ (table : List ℕ) (columns : ℕ) (first second : List ℤ) (term grou
       keeps-apart i g ∙ apart-holds worse strict columns first second c d first-whole second-whole i g (rw both-count at e)
 
   -- The kept rows of the two together are what is left of both.
-  pub together-left : together table columns first second term group p q
+  together-left : together table columns first second term group p q
       ≡ leftRows columns both (keptApart table columns first second term group p q)
   unfolding keptRows leftRows
   together-left =

@@ -49,14 +49,14 @@ pub fn merged_keeps()
         (keptApart table columns first second term group p q) a b) ⌝ }
 {}
 
-// The first of any number of rows, and of any relation between them that is strict.
+// `leaving_out` for any number of rows and any strict relation between them.
 pub fn leaving_out_any()
     ensures { λ _. ⌜ ((n : ℕ) (beats : ℕ → ℕ → Bool) → Strict beats → (stays : ℕ → Bool)
         → ((k : ℕ) → k < n → kept n beats k ≡ true → stays k ≡ true) → SameAnswersOf n beats stays) ⌝ }
 {}
 
-// The second of any number of catalogues, each of any number of rows: by numbers, of any relation between them that is
-// strict; and as runs of whole rows, of any relation between rows that is.
+// `merged_keeps` for any number of catalogues, each of any number of rows: by numbers, and as runs of whole rows, for any
+// strict relation.
 pub fn merged_any()
     ensures { λ _. ⌜ ((catalogues : List ℕ) (beats : ℕ → ℕ → Bool) → Strict beats
         → ((k : ℕ) → k < rowsOfAll catalogues → kept (rowsOfAll catalogues) beats k ≡ true
@@ -69,7 +69,7 @@ pub fn merged_any()
 
 // Such a relation is the term's order of rows in a group (`worseIn`): Query keeps the rows that none betters by it, which
 // `merged_any` speaks of.
-pub fn kept_rows_any()
+pub fn kept_rows_by_order()
     ensures { λ _. ⌜ ((table : List ℕ) (columns : ℕ) (rows : List ℤ) (term group : ℕ)
         → Asked table columns rows term group → (before : List ℕ) → Long columns rows before
         → Strict (worseIn (termAt table term) group)

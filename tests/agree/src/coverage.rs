@@ -1,7 +1,7 @@
 //! What the inputs reached, counted as they are judged.
 
 use crate::input::{Asks, Call, Input};
-use crate::left::Leaving;
+use crate::left_counts::Leaving;
 use crate::library::{Lending, Placing, Reply};
 use crate::limits::{COLUMN_COUNTS, ROW_COUNTS, TERM_NUMBERS};
 use crate::memory::Flush;

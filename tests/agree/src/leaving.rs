@@ -177,10 +177,15 @@ impl Asked<'_> {
         Ok(left)
     }
 
-    /// The entries of a catalogue by itself. Which of its rows are kept, the query over the kept rows will tell.
+    /// The entries of a catalogue by itself: of few rows, those of the oracle. Of more, where the oracle takes long, only
+    /// the kept count and what stands behind the rows are looked at here.
     fn alone(&mut self, rows: &[i32], engine: Call) -> Result<Vec<u16>, String> {
         let alone = self.again(rows);
         let mut given = self.room.call(&alone, engine);
+        if alone.row_count() <= FEW {
+            let right = expected(self.oracle, &alone);
+            agree(&alone, &right, &given, engine.words())?;
+        }
         let behind = given.answers.split_off(alone.row_count());
         let untouched = alone.patterned().ends_with(&behind) && given.strayed == 0;
         let counted = given.values[0] as usize == kept(&given.answers).count();

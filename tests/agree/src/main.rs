@@ -12,7 +12,7 @@ mod generator;
 mod input;
 mod judge;
 mod leaving;
-mod left;
+mod left_counts;
 mod library;
 mod limits;
 mod memory;

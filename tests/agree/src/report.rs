@@ -3,7 +3,7 @@
 use crate::coverage::{Coverage, Lengths, Terms, PIECES, REFUSALS};
 use crate::faults;
 use crate::input::{Asks, Call, Origin};
-use crate::left::{Out, Split};
+use crate::left_counts::{Out, Split};
 use crate::limits::{COLUMN_COUNTS, ROW_COUNTS, TERM_NUMBERS};
 use crate::order;
 use crate::records::*;
@@ -14,7 +14,8 @@ const MANY: u64 = 100;
 const SOME: u64 = 10;
 /// For the largest queries with rows left out: not every one has a dropped row.
 const FEW: u64 = 5;
-/// For queries that lose a row, and for those that are split between two rows.
+/// For queries over rows that are left, a row or more being taken out, and for those split between two rows. A query of
+/// few rows is asked again with more than one set taken out.
 const LEFT: u64 = 50_000;
 
 /// What is missing, one line each.

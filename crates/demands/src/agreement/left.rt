@@ -11,8 +11,8 @@ ghost use lib.ListN.{length, take, drop};
 ghost use Rattle.model.specs.declared.{QueryReply.QueryReply};
 ghost use Rattle.model.specs.Query.{rowCount, rowAt};
 ghost use Rattle.model.specs.Leaving.{leftRows};
-ghost use Rattle.demands.specs.Witness.{Answers};
-ghost use Rattle.demands.specs.Leaving.{byReply, marked, sameEntry, sameByNumber, queriedTwice, sameTwice};
+ghost use Rattle.demands.specs.Witness.{Answers, byReply};
+ghost use Rattle.demands.specs.Leaving.{marked, sameEntry, sameByNumber, queriedTwice, sameTwice};
 ghost use Rattle.demands.specs.Gathered.{Run, Buffers, Placed, Gathered, OldNumbers};
 
 // Both engines, one after the other, over the rows that are marked: whether as many are kept as before and the entries

@@ -7,7 +7,7 @@ ghost use Prim.Native.Nat.{ℕ, _<_, _≤_};
 ghost use lib.Dec.{ltb, eqb};
 ghost use lib.ListN.{length, getD};
 ghost use Rattle.laws.specs.Wrote.{Wrote};
-ghost use Rattle.demands.specs.Leaving.{holdsOwn, marked, spared, keptApart};
+ghost use Rattle.demands.specs.Leaving.{holdsOwn, marked, spared, keptBySplit};
 ghost use Rattle.demands.specs.Gathered.{Marking, Run};
 
 // Marks those of n rows that hold their own number or are not asked to be taken out.
@@ -46,7 +46,7 @@ pub fn mark_apart(
 )
     requires { ⌜ Run columns (now rows) n × (first ≤ n) × (length (now stay) ≡ 1024) ⌝ }
     ensures { λ _. ⌜ ((i : ℕ) → i < n → marked (now (stay .exit)) i
-        ≡ keptApart (now (table .entry)) columns (now (rows .entry)) first term group i) ⌝ }
+        ≡ keptBySplit (now (table .entry)) columns (now (rows .entry)) first term group i) ⌝ }
 {
     let cut = first * columns;
     let mut entries: [u16; 1024] = [0; 1024];

@@ -15,13 +15,13 @@ use Rattle.model.specs.cases.Tables.{minus, wholes, lowest, pareto, T1, 
 abbrev but : List ℕ → ℕ → Bool
 but out i = not (anyIn out (λ k. eqb i k))
 
--- Taken out the rows `out`, these rows are left; a query over them keeps so many and gives these entries, by their numbers
--- now; and by old numbers the entries are those that the rows had.
+-- Without the rows `out` these rows are left; a query over them keeps so many and gives these entries, by their numbers now,
+-- and by old numbers those.
 abbrev left : List ℕ → ℕ → List ℤ → ℕ → ℕ → List ℕ → List ℤ → ℕ → List ℕ → List ℕ → List Case
-left table columns rows term group out remaining kept entries had =
+left table columns rows term group out remaining kept entries byOld =
     reads (leftRows columns rows (but out)) remaining
     ∷ answers table columns remaining term group kept entries
-    ∷ writes (map (oldNumber (rowCount columns rows) (but out)) entries) had
+    ∷ writes (map (oldNumber (rowCount columns rows) (but out)) entries) byOld
     ∷ []
 
 -- The rows that record `term` keeps, ungrouped.

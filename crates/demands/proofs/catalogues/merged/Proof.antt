@@ -6,7 +6,7 @@ use lib.ListN.{length-replicate}
 use denote.Ref.{now}
 use borrow.Author.Needs.{needs}
 use Rattle.model.specs.Query.{rowCount}
-use Rattle.demands.specs.Leaving.{marked, firstCount, keptApart, merges, mergesBuffer}
+use Rattle.demands.specs.Leaving.{marked, firstCount, keptBySplit, merges, mergesBuffer}
 use Rattle.demands.proofs.Witnesses.{replied-answers}
 use Rattle.demands.proofs.Again.{said-refused, said-kept}
 use Rattle.demands.proofs.LeftOut.{first-within, merges-holds}
@@ -109,7 +109,7 @@ returns-2 c =
     said-kept (now (a .table)) (a .columns) (now (a .rows)) (a .term) (a .group) (now (a .answers)) (now (a .again)) _
     (d .query-direct .result) (e .0) (e .1) (marked _) _
     (λ i h. m .mark-apart .ensures i h
-    ∙ ap (λ (k : ℕ). keptApart (now (a .table)) (a .columns) (now (a .rows)) k (a .term) (a .group) i)
+    ∙ ap (λ (k : ℕ). keptBySplit (now (a .table)) (a .columns) (now (a .rows)) k (a .term) (a .group) i)
     (l .first-count .ensures))
     (g .0 .0) (g .1) (q .queried-again .result) _ (q .queried-again .ensures .0) (q .queried-again .ensures .1) in (
       said .0,
