@@ -18,8 +18,7 @@ use Rattle.model.specs.Leaving.{leftRows, oldNumber}
 use Rattle.laws.specs.Bools.{on-or-off}
 use Rattle.laws.specs.Search.{any-ext, count-ext, count-bound}
 use Rattle.laws.specs.Renumbered.{list-ext, old-is}
-use Rattle.laws.specs.LeftRows.{left-ext}
-use Rattle.laws.specs.Merged.{rows-of, left-rows-length}
+use Rattle.laws.specs.LeftRows.{left-ext, rows-of, left-rows-length}
 use Rattle.demands.specs.Witness.{Answers, byReply}
 use Rattle.demands.specs.Leaving.{sameEntry, sameByNumber, sameAnswers, queriedTwice, sameTwice}
 use Rattle.demands.specs.Gathered.{Gathered, OldNumbers}

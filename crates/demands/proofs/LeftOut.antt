@@ -19,7 +19,7 @@ use Rattle.model.specs.Leaving.{leftRows, oldNumber, byCatalogue}
 use Rattle.laws.specs.Bools.{and-i, or-l, not-both, on-or-off}
 use Rattle.laws.specs.Search.{none-i, count-bound}
 use Rattle.laws.specs.Query as query
-use Rattle.laws.specs.Merged.{rows-of, left-rows-count}
+use Rattle.laws.specs.LeftRows.{rows-of, left-rows-count}
 use Rattle.theorems.specs.Asked.{Asked, Long}
 use Rattle.theorems.specs.LeftOut.{SameAnswers}
 use Rattle.theorems.specs.Leaving.{some-column, rows-whole, rows-few, asked-of, query-asked, leaving-out}

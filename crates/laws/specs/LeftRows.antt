@@ -3,8 +3,8 @@ use mathlib.Core.Path.{_≡_, refl, sym, _∙_, ap}
 use mathlib.Core.Logic.{_⊎_, inl, inr}
 use mathlib.Core.Bool.{Bool, true, false, cond, _&&_}
 use mathlib.Core.List.{List, [], _∷_, _++_, append-nil, append-assoc}
-use Prim.Native.Nat.{ℕ, zero, suc, _+_, _*_, _<_, _≤_}
-use native.Mathlib.Nat.{mul-le-mul-right, add-zero, add-suc}
+use Prim.Native.Nat.{ℕ, zero, suc, _+_, _*_, _/_, _%_, _<_, _≤_}
+use native.Mathlib.Nat.{mul-le-mul-right, add-zero, add-suc, div-add-mod', div-mul-le-self, div-eq-of-eq-mul-left}
 use native.Mathlib.Numerals.{add-one}
 use native.Mathlib.Omega.{arith}
 use lib.Dec.{ltb}
@@ -13,8 +13,8 @@ use lib.ListN.{length, getD, take, drop, length-append, length-drop, List·getD-
 use lib.Seq.{drop-append-le, drop-append-add, take-append-le, drop-at, take-all, length-take-le, getD-append-seam}
 use borrow.Author.Tests.{ltb-true, ltb-false}
 use Rattle.model.specs.Search.{countBelow, listBelow}
-use Rattle.model.specs.Query.{rowAt}
-use Rattle.model.specs.Leaving.{leftBelow, oldNumber}
+use Rattle.model.specs.Query.{rowCount, rowAt}
+use Rattle.model.specs.Leaving.{leftBelow, leftRows, oldNumber}
 use Rattle.laws.specs.Bools.{on-or-off}
 use Rattle.laws.specs.Renumbered.{list-length}
 
@@ -137,3 +137,31 @@ left-append w a b c e s zero =
 left-append w a b c e s (suc m) =
     rw (add-suc c m) (rw (left-append w a b c e s m, row-second w a b c e m)
     (append-assoc (leftBelow w a s c) (leftBelow w b (λ j. s (c + j)) m) (cond (s (c + m)) (rowAt w b m) [])))
+
+-- ---- runs of whole rows
+
+module _ (w : ℕ) (some : 1 ≤ w) where
+  -- A run of whole rows has as many as its length says.
+  pub whole-rows : (run : List ℤ) → length run % w ≡ 0 → length run ≡ rowCount w run * w
+  unfolding rowCount
+  whole-rows run e = sym (div-add-mod' (length run) w) ∙ rw e (omega arith)
+
+  -- A run of c rows.
+  pub rows-of : (run : List ℤ) (c : ℕ) → length run ≡ c * w → rowCount w run ≡ c
+  unfolding rowCount
+  rows-of run c e = div-eq-of-eq-mul-left some e
+
+  -- Two runs together.
+  pub append-rows : (a b : List ℤ) (c d : ℕ) → length a ≡ c * w → length b ≡ d * w → length (a ++ b) ≡ (c + d) * w
+  append-rows a b c d la lb = length-append a b ∙ omega (arith, la, lb)
+
+  -- The rows that are left are whole, and are as many as stay.
+  pub left-rows-length : (run : List ℤ) (stays : ℕ → Bool)
+      → length (leftRows w run stays) ≡ countBelow (rowCount w run) stays * w
+  unfolding leftRows rowCount
+  left-rows-length run stays = left-length w run stays (length run / w) (div-mul-le-self (length run) w)
+
+  pub left-rows-count : (run : List ℤ) (stays : ℕ → Bool)
+      → rowCount w (leftRows w run stays) ≡ countBelow (rowCount w run) stays
+  left-rows-count run stays =
+      rows-of (leftRows w run stays) (countBelow (rowCount w run) stays) (left-rows-length run stays)

@@ -32,6 +32,7 @@ pub mod Renumbered
 pub mod Leaving
 pub mod LeftRows
 pub mod Merged
+pub mod Catalogues
 pub mod Placing
 pub mod Rows
 pub mod Unread

@@ -1,48 +1,32 @@
--- The rows of a run that are left, and the kept rows of any number of catalogues together (SPECIFICATION, "Leaving out
--- rows"), by whatever strict order of rows: `worse x y` reads "y is better than x". Any number of rows. Assumes nothing.
+-- The rows of a run that are left, and two catalogues (SPECIFICATION, "Leaving out rows"), by whatever strict order of rows:
+-- `worse x y` reads "y is better than x". Any number of rows. Assumes nothing.
 use mathlib.Core.Path.{_≡_, refl, sym, _∙_, ap}
 use mathlib.Core.Logic.{⊎-elim}
-use mathlib.Core.Bool.{Bool, true, false, not, _&&_, false≢true}
+use mathlib.Core.Bool.{Bool, true, _&&_, false≢true}
 use mathlib.Core.List.{List, [], _∷_, _++_}
-use Prim.Native.Nat.{ℕ, _+_, _*_, _-_, _/_, _%_, _<_, _≤_}
-use native.Mathlib.Nat.{div-add-mod', div-mul-le-self, div-eq-of-eq-mul-left}
+use Prim.Native.Nat.{ℕ, _+_, _*_, _-_, _<_, _≤_}
 use native.Mathlib.Omega.{arith}
-use lib.Dec.{ltb, eqb}
+use lib.Dec.{ltb}
 use lib.IntN.{ℤ}
-use lib.ListN.{length, length-append}
-use borrow.Author.Tests.{ltb-true, ltb-false, lt-ltb, le-ltb, eqb-true, not-false}
-use Rattle.model.specs.Search.{countBelow, anyIn}
+use lib.ListN.{length}
+use borrow.Author.Tests.{ltb-true, ltb-false, lt-ltb, le-ltb}
+use Rattle.model.specs.Search.{countBelow}
 use Rattle.model.specs.Term.{Term}
 use Rattle.model.specs.Better.{Row, equalIn, better}
-use Rattle.model.specs.Query.{kept, answer, keptCount, rowCount, rowAt, beatsIn}
-use Rattle.model.specs.Leaving.{leftBelow, leftRows, oldNumber, byCatalogue}
+use Rattle.model.specs.Query.{kept, answer, keptCount, rowAt, beatsIn}
+use Rattle.model.specs.Leaving.{leftBelow, oldNumber, byCatalogue}
 use Rattle.laws.specs.Bools.{and-l, and-r, and-i, off, on-or-off}
-use Rattle.laws.specs.Members.{or-off}
 use Rattle.laws.specs.Order.{Rel, Strict}
 use Rattle.laws.specs.Masks.{equalIn-trans}
 use Rattle.laws.specs.Select.{kept-ext}
 use Rattle.laws.specs.Answers.{answer-ext, kept-count-ext}
 use Rattle.laws.specs.Renumbered.{new-of}
 use Rattle.laws.specs.Leaving.{leftBeats, kept-left, count-kept-left, answer-left, rowsOfAll, keptInOwn, own-holds}
-use Rattle.laws.specs.LeftRows.{row-first, row-second, left-length, left-row, left-ext, left-twice, left-append}
+use Rattle.laws.specs.LeftRows.{row-first, row-second, left-row, left-ext, left-twice, left-append}
 
 -- Row j of a run beats row i.
 unfoldable pub beatsOver : Rel Row → ℕ → List ℤ → Rel ℕ
 beatsOver worse w run j i = worse (rowAt w run i) (rowAt w run j)
-
--- The rows of a run that no row of it beats, as a run.
-unfoldable pub keptOf : Rel Row → ℕ → List ℤ → List ℤ
-keptOf worse w run = leftRows w run (kept (rowCount w run) (beatsOver worse w run))
-
--- The catalogues, one after the other.
-unfoldable pub joined : List (List ℤ) → List ℤ
-joined [] = []
-joined (run ∷ rest) = run ++ joined rest
-
--- The kept rows of each catalogue, one after the other.
-unfoldable pub keptOfEach : Rel Row → ℕ → List (List ℤ) → List ℤ
-keptOfEach worse w [] = []
-keptOfEach worse w (run ∷ rest) = keptOf worse w run ++ keptOfEach worse w rest
 
 module _ (worse : Rel Row) (strict : Strict worse) (w : ℕ) where
   over-strict : (run : List ℤ) → Strict (beatsOver worse w run)
@@ -148,104 +132,6 @@ module _ (worse : Rel Row) (strict : Strict worse) (w : ℕ) where
               (λ i h. let z : c + i - c ≡ i = omega arith in rw (le-ltb (c + i) c (omega arith), z)),
         )
         (sym (left-append w a b c la apart d))
-
--- ---- runs of whole rows
-
-module _ (w : ℕ) (some : 1 ≤ w) where
-  -- A run of whole rows has as many as its length says.
-  pub whole-rows : (run : List ℤ) → length run % w ≡ 0 → length run ≡ rowCount w run * w
-  unfolding rowCount
-  whole-rows run e = sym (div-add-mod' (length run) w) ∙ rw e (omega arith)
-
-  -- A run of c rows.
-  pub rows-of : (run : List ℤ) (c : ℕ) → length run ≡ c * w → rowCount w run ≡ c
-  unfolding rowCount
-  rows-of run c e = div-eq-of-eq-mul-left some e
-
-  -- Two runs together.
-  pub append-rows : (a b : List ℤ) (c d : ℕ) → length a ≡ c * w → length b ≡ d * w → length (a ++ b) ≡ (c + d) * w
-  append-rows a b c d la lb = length-append a b ∙ omega (arith, la, lb)
-
-  -- The rows that are left are whole, and are as many as stay.
-  pub left-rows-length : (run : List ℤ) (stays : ℕ → Bool)
-      → length (leftRows w run stays) ≡ countBelow (rowCount w run) stays * w
-  unfolding leftRows rowCount
-  left-rows-length run stays = left-length w run stays (length run / w) (div-mul-le-self (length run) w)
-
-  pub left-rows-count : (run : List ℤ) (stays : ℕ → Bool)
-      → rowCount w (leftRows w run stays) ≡ countBelow (rowCount w run) stays
-  left-rows-count run stays =
-      rows-of (leftRows w run stays) (countBelow (rowCount w run) stays) (left-rows-length run stays)
-
-  module _ (worse : Rel Row) (strict : Strict worse) where
-    abbrev keep : List ℤ → List ℤ
-    keep = keptOf worse w
-
-    keep-of : (run : List ℤ) (c : ℕ) → length run ≡ c * w → keep run ≡ leftBelow w run (kept c (beatsOver worse w run)) c
-    unfolding keptOf leftRows
-    keep-of run c e = rw (rows-of run c e)
-
-    keep-length : (run : List ℤ) → length (keep run) ≡ rowCount w (keep run) * w
-    unfolding keptOf
-    keep-length run =
-        left-rows-length run (kept (rowCount w run) (beatsOver worse w run))
-        ∙ ap (λ (c : ℕ). c * w) (sym (left-rows-count run (kept (rowCount w run) (beatsOver worse w run))))
-
-    -- Dropped rows left out, the same rows are kept.
-    keep-left : (run : List ℤ) (c : ℕ) → length run ≡ c * w → (stays : ℕ → Bool)
-        → ((k : ℕ) → k < c → kept c (beatsOver worse w run) k ≡ true → stays k ≡ true)
-        → keep (leftBelow w run stays c) ≡ keep run
-    keep-left run c e stays holds =
-        keep-of (leftBelow w run stays c) (countBelow c stays) (left-length w run stays c (omega (arith, e)))
-        ∙ rows-again worse strict w run c (omega (arith, e)) stays holds
-        ∙ sym (keep-of run c e)
-
-    -- Kept rows are kept again.
-    keep-twice : (run : List ℤ) (c : ℕ) → length run ≡ c * w → keep (keep run) ≡ keep run
-    keep-twice run c e =
-        ap keep (keep-of run c e) ∙ keep-left run c e (kept c (beatsOver worse w run)) (λ k h q. q)
-
-    -- Two catalogues apart, then their kept rows together.
-    pub merge-two : (a b : List ℤ) (c d : ℕ) → length a ≡ c * w → length b ≡ d * w
-        → keep (keep a ++ keep b) ≡ keep (a ++ b)
-    merge-two a b c d la lb =
-        ap keep (rw (keep-of a c la, keep-of b d lb) (apart-rows worse strict w a b c d la lb))
-        ∙ keep-left (a ++ b) (c + d) (append-rows a b c d la lb) (apart worse strict w a b c d la lb)
-        (apart-holds worse strict w a b c d la lb)
-
-    whole-append : (a b : List ℤ) → length a ≡ rowCount w a * w → length b ≡ rowCount w b * w
-        → length (a ++ b) ≡ rowCount w (a ++ b) * w
-    whole-append a b la lb =
-        let l = append-rows a b (rowCount w a) (rowCount w b) la lb in
-        l ∙ ap (λ (c : ℕ). c * w) (sym (rows-of (a ++ b) (rowCount w a + rowCount w b) l))
-
-    whole-none : length {A = ℤ} [] ≡ rowCount w [] * w
-    whole-none = let z = rows-of [] 0 (omega arith) in rw z (omega arith)
-
-    -- Any number of them,
-    merges : (catalogues : List (List ℤ)) → anyIn catalogues (λ run. not (eqb (length run % w) 0)) ≡ false
-        → (keep (keptOfEach worse w catalogues) ≡ keep (joined catalogues))
-        × (length (joined catalogues) ≡ rowCount w (joined catalogues) * w)
-        × (length (keptOfEach worse w catalogues) ≡ rowCount w (keptOfEach worse w catalogues) * w)
-    unfolding keptOfEach joined anyIn
-    merges [] e = (refl, whole-none, whole-none)
-    merges (a ∷ rest) e =
-        let o = or-off (not (eqb (length a % w) 0)) (anyIn rest (λ run. not (eqb (length run % w) 0))) e in
-        let la = whole-rows a (eqb-true (length a % w) 0 (not-false (eqb (length a % w) 0) (o .0))) in
-        let ih = merges rest (o .1) in
-        let each = keptOfEach worse w rest in
-        let all = joined rest in (
-          sym (merge-two (keep a) each (rowCount w (keep a)) (rowCount w each) (keep-length a) (ih .2))
-              ∙ ap keep (rw (keep-twice a (rowCount w a) la, ih .0))
-              ∙ merge-two a all (rowCount w a) (rowCount w all) la (ih .1),
-          whole-append a all la (ih .1),
-          whole-append (keep a) each (keep-length a) (ih .2),
-        )
-
-    -- queried apart, then their kept rows together: the same rows, in order.
-    pub merge-all : (catalogues : List (List ℤ)) → anyIn catalogues (λ run. not (eqb (length run % w) 0)) ≡ false
-        → keep (keptOfEach worse w catalogues) ≡ keep (joined catalogues)
-    merge-all catalogues e = merges catalogues e .0
 
 -- ---- the order of a query
 

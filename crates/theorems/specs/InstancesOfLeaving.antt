@@ -21,7 +21,8 @@ use Rattle.laws.specs.Order.{Rel, Strict}
 use Rattle.laws.specs.Search.{none-e}
 use Rattle.laws.specs.Rows.{beats-strict}
 use Rattle.laws.specs.Leaving.{rowsOfAll, keptInOwn}
-use Rattle.laws.specs.Merged.{worseIn, keptOf, joined, keptOfEach, merge-all}
+use Rattle.laws.specs.Merged.{worseIn}
+use Rattle.laws.specs.Catalogues.{keptOf, joined, keptOfEach, merge-all}
 use Rattle.theorems.specs.Asked.{Asked}
 use Rattle.theorems.specs.LeftOut.{SameAnswers, SameAnswersOf, together, keptApart}
 use Rattle.theorems.specs.Leaving.{query-asked, order-strict, kept-rows-order, leaving-out, left-out-of, merged-of}

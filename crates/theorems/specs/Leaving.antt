@@ -27,9 +27,9 @@ use Rattle.laws.specs.Strict.{ordered}
 use Rattle.laws.specs.Taken.{taken-asked, taken-sound}
 use Rattle.laws.specs.Renumbered.{old-is, new-of, old-rising}
 use Rattle.laws.specs.Leaving.{kept-left, count-kept-left, answer-is-left, answer-left, keptInOwn, rowsOfAll, own-holds}
-use Rattle.laws.specs.LeftRows.{left-row, left-ext}
-use Rattle.laws.specs.Merged.{beatsOver, keptOf, worseIn, worse-strict, beats-over, kept-again, count-again, rows-again, answer-again}
-use Rattle.laws.specs.Merged.{whole-rows, rows-of, left-rows-length, left-rows-count}
+use Rattle.laws.specs.LeftRows.{left-row, left-ext, whole-rows, rows-of, left-rows-length, left-rows-count}
+use Rattle.laws.specs.Merged.{beatsOver, worseIn, worse-strict, beats-over, kept-again, count-again, rows-again, answer-again}
+use Rattle.laws.specs.Catalogues.{keptOf}
 use Rattle.theorems.specs.Asked.{Asked, Long}
 use Rattle.theorems.specs.Ordered.{taken}
 use Rattle.theorems.specs.Dropped.{query-takes}

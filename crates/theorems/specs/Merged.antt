@@ -15,8 +15,8 @@ use Rattle.model.specs.Demand.{keeps}
 use Rattle.model.specs.Leaving.{leftRows, keptRows, byCatalogue}
 use Rattle.laws.specs.Bools.{on-or-off}
 use Rattle.laws.specs.Order.{Rel, Strict}
-use Rattle.laws.specs.LeftRows.{left-ext}
-use Rattle.laws.specs.Merged.{beatsOver, rows-of, append-rows, apart, apart-holds, apart-rows}
+use Rattle.laws.specs.LeftRows.{left-ext, rows-of, append-rows}
+use Rattle.laws.specs.Merged.{beatsOver, apart, apart-holds, apart-rows}
 use Rattle.theorems.specs.Asked.{Asked, Long}
 use Rattle.theorems.specs.LeftOut.{SameAnswers, together, keptApart}
 use Rattle.theorems.specs.Leaving.{some-column, rows-whole, asked-of, order, order-strict, keeps-order, leaving-out}

@@ -16,7 +16,8 @@ ghost use Rattle.model.specs.Demand.{keeps};
 ghost use Rattle.model.specs.Leaving.{leftRows, keptRows};
 ghost use Rattle.laws.specs.Order.{Strict};
 ghost use Rattle.laws.specs.Leaving.{rowsOfAll, keptInOwn};
-ghost use Rattle.laws.specs.Merged.{keptOf, joined, keptOfEach, worseIn};
+ghost use Rattle.laws.specs.Merged.{worseIn};
+ghost use Rattle.laws.specs.Catalogues.{keptOf, joined, keptOfEach};
 ghost use Rattle.theorems.specs.Asked.{Asked, Long};
 ghost use Rattle.theorems.specs.LeftOut.{SameAnswers, SameAnswersOf, together, keptApart};
 

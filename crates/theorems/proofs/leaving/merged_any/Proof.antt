@@ -1,5 +1,5 @@
--- `theorems::leaving::merged_any`: proved in specs/Leaving, and in specs/Merged of `laws`. Assumes nothing.
-use Rattle.laws.specs.Merged.{merge-all}
+-- `theorems::leaving::merged_any`: proved in specs/Leaving, and in specs/Catalogues of `laws`. Assumes nothing.
+use Rattle.laws.specs.Catalogues.{merge-all}
 use Rattle.theorems.specs.Leaving.{merged-of}
 use Rattle.theorems.proofs.leaving.merged_any.Statement.{statement}
 use Rattle.theorems.proofs.leaving.merged_any.Tie as tie
