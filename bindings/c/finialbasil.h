@@ -389,7 +389,8 @@ fnb_reply fnb_perfect(const uint8_t *table, size_t table_len, size_t columns, si
  * Dropped rows may be taken out, some or all. Asked again with the same table, column count, term and group byte, the
  * same rows are kept, and each dropped row that is left names the same better row; the rows that are left are numbered
  * from 0 again in their old order. So two catalogues can be queried separately and then their kept rows together, which
- * keeps what one query over both keeps, provided both have at most 1,024 rows (SPECIFICATION, "Leaving out rows").
+ * keeps what one query over both keeps, provided both together have at most 1,024 rows (SPECIFICATION, "Leaving out
+ * rows").
  * Refuses 1 to 18, and then writes nothing. */
 fnb_reply fnb_query_direct(const uint8_t *table, size_t table_len, size_t columns, const int32_t *rows, size_t rows_len,
                            size_t term, uint8_t group, uint16_t *answers, size_t answers_len);
