@@ -11,5 +11,5 @@ all-given : AllGiven rows_left
 unfolding opened rows_left runs merges left_out
 all-given = refl
 
-pub left-cases-spec : {M : Type 1} → statement M
-left-cases-spec = tie.close (tie.spec (λ c. all-given))
+pub left_cases_spec : {M : Type 1} → statement M
+left_cases_spec = tie.close (tie.spec (λ c. all-given))

@@ -70,5 +70,5 @@ all-given : AllGiven perfects
 unfolding perfects
 all-given = rw (one, two, three, four, five, six, seven, eight, nine, ten)
 
-pub perfect-cases-spec : {M : Type 1} → statement M
-perfect-cases-spec = tie.close (tie.spec (λ c. all-given))
+pub perfect_cases_spec : {M : Type 1} → statement M
+perfect_cases_spec = tie.close (tie.spec (λ c. all-given))
