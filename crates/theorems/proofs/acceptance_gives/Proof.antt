@@ -3,5 +3,5 @@ use Rattle.laws.specs.Accepted.{accepted-true}
 use Rattle.theorems.proofs.acceptance_gives.Statement.{statement}
 use Rattle.theorems.proofs.acceptance_gives.Tie as tie
 
-pub acceptance-gives-spec : {M : Type 1} → statement M
-acceptance-gives-spec = tie.close (tie.spec (λ c. accepted-true))
+pub acceptance_gives_spec : {M : Type 1} → statement M
+acceptance_gives_spec = tie.close (tie.spec (λ c. accepted-true))

@@ -4,6 +4,6 @@ use Rattle.laws.specs.AcceptedTerms.{accepted-term}
 use Rattle.theorems.proofs.accepted_terms.Statement.{statement}
 use Rattle.theorems.proofs.accepted_terms.Tie as tie
 
-pub accepted-terms-spec : {M : Type 1} → statement M
-accepted-terms-spec =
+pub accepted_terms_spec : {M : Type 1} → statement M
+accepted_terms_spec =
     tie.close (tie.spec (λ c. (λ table columns ok. accepted-term table columns ((accepted-true table columns).0 ok))))

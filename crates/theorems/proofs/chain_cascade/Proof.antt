@@ -3,5 +3,5 @@ use Rattle.theorems.specs.Cascade.{chain-keeps-equal, chain-prior}
 use Rattle.theorems.proofs.chain_cascade.Statement.{statement}
 use Rattle.theorems.proofs.chain_cascade.Tie as tie
 
-pub chain-cascade-spec : {M : Type 1} → statement M
-chain-cascade-spec = tie.close (tie.spec (λ c. (chain-keeps-equal, chain-prior)))
+pub chain_cascade_spec : {M : Type 1} → statement M
+chain_cascade_spec = tie.close (tie.spec (λ c. (chain-keeps-equal, chain-prior)))

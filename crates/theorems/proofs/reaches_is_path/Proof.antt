@@ -3,5 +3,5 @@ use Rattle.laws.specs.Reach.{reaches-path}
 use Rattle.theorems.proofs.reaches_is_path.Statement.{statement}
 use Rattle.theorems.proofs.reaches_is_path.Tie as tie
 
-pub reaches-is-path-spec : {M : Type 1} → statement M
-reaches-is-path-spec = tie.close (tie.spec (λ c. reaches-path))
+pub reaches_is_path_spec : {M : Type 1} → statement M
+reaches_is_path_spec = tie.close (tie.spec (λ c. reaches-path))

@@ -3,5 +3,5 @@ use Rattle.laws.specs.Values.{some-value}
 use Rattle.theorems.proofs.some_value_is_some.Statement.{statement}
 use Rattle.theorems.proofs.some_value_is_some.Tie as tie
 
-pub some-value-is-some-spec : {M : Type 1} → statement M
-some-value-is-some-spec = tie.close (tie.spec (λ c. some-value))
+pub some_value_is_some_spec : {M : Type 1} → statement M
+some_value_is_some_spec = tie.close (tie.spec (λ c. some-value))

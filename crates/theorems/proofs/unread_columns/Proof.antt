@@ -3,5 +3,5 @@ use Rattle.theorems.specs.Unread.{unread-columns}
 use Rattle.theorems.proofs.unread_columns.Statement.{statement}
 use Rattle.theorems.proofs.unread_columns.Tie as tie
 
-pub unread-columns-spec : {M : Type 1} → statement M
-unread-columns-spec = tie.close (tie.spec (λ c. unread-columns))
+pub unread_columns_spec : {M : Type 1} → statement M
+unread_columns_spec = tie.close (tie.spec (λ c. unread-columns))

@@ -3,5 +3,5 @@ use Rattle.theorems.specs.Leaving.{kept-rows-order}
 use Rattle.theorems.proofs.leaving.kept_rows_by_order.Statement.{statement}
 use Rattle.theorems.proofs.leaving.kept_rows_by_order.Tie as tie
 
-pub kept-rows-by-order-spec : {M : Type 1} → statement M
-kept-rows-by-order-spec = tie.close (tie.spec (λ c. kept-rows-order))
+pub kept_rows_by_order_spec : {M : Type 1} → statement M
+kept_rows_by_order_spec = tie.close (tie.spec (λ c. kept-rows-order))

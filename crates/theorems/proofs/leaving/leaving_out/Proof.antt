@@ -3,5 +3,5 @@ use Rattle.theorems.specs.Leaving.{leaving-out}
 use Rattle.theorems.proofs.leaving.leaving_out.Statement.{statement}
 use Rattle.theorems.proofs.leaving.leaving_out.Tie as tie
 
-pub leaving-out-spec : {M : Type 1} → statement M
-leaving-out-spec = tie.close (tie.spec (λ c. leaving-out))
+pub leaving_out_spec : {M : Type 1} → statement M
+leaving_out_spec = tie.close (tie.spec (λ c. leaving-out))

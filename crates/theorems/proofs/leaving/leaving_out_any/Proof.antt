@@ -3,5 +3,5 @@ use Rattle.theorems.specs.Leaving.{left-out-of}
 use Rattle.theorems.proofs.leaving.leaving_out_any.Statement.{statement}
 use Rattle.theorems.proofs.leaving.leaving_out_any.Tie as tie
 
-pub leaving-out-any-spec : {M : Type 1} → statement M
-leaving-out-any-spec = tie.close (tie.spec (λ c. left-out-of))
+pub leaving_out_any_spec : {M : Type 1} → statement M
+leaving_out_any_spec = tie.close (tie.spec (λ c. left-out-of))

@@ -4,5 +4,5 @@ use Rattle.theorems.specs.Leaving.{merged-of}
 use Rattle.theorems.proofs.leaving.merged_any.Statement.{statement}
 use Rattle.theorems.proofs.leaving.merged_any.Tie as tie
 
-pub merged-any-spec : {M : Type 1} → statement M
-merged-any-spec = tie.close (tie.spec (λ c. (merged-of, merge-all)))
+pub merged_any_spec : {M : Type 1} → statement M
+merged_any_spec = tie.close (tie.spec (λ c. (merged-of, merge-all)))

@@ -3,5 +3,5 @@ use Rattle.theorems.specs.Merged.{merged_keeps}
 use Rattle.theorems.proofs.leaving.merged_keeps.Statement.{statement}
 use Rattle.theorems.proofs.leaving.merged_keeps.Tie as tie
 
-pub merged-keeps-spec : {M : Type 1} → statement M
-merged-keeps-spec = tie.close (tie.spec (λ c. merged_keeps))
+pub merged_keeps_spec : {M : Type 1} → statement M
+merged_keeps_spec = tie.close (tie.spec (λ c. merged_keeps))

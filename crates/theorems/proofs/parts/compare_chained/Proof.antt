@@ -3,5 +3,5 @@ use Rattle.theorems.specs.Ordered.{compare-chained}
 use Rattle.theorems.proofs.parts.compare_chained.Statement.{statement}
 use Rattle.theorems.proofs.parts.compare_chained.Tie as tie
 
-pub compare-chained-spec : {M : Type 1} → statement M
-compare-chained-spec = tie.close (tie.spec (λ c. compare-chained))
+pub compare_chained_spec : {M : Type 1} → statement M
+compare_chained_spec = tie.close (tie.spec (λ c. compare-chained))

@@ -3,5 +3,5 @@ use Rattle.theorems.specs.Ordered.{compare-first}
 use Rattle.theorems.proofs.parts.compare_first.Statement.{statement}
 use Rattle.theorems.proofs.parts.compare_first.Tie as tie
 
-pub compare-first-spec : {M : Type 1} → statement M
-compare-first-spec = tie.close (tie.spec (λ c. compare-first))
+pub compare_first_spec : {M : Type 1} → statement M
+compare_first_spec = tie.close (tie.spec (λ c. compare-first))

@@ -3,5 +3,5 @@ use Rattle.theorems.specs.Ordered.{compare_same}
 use Rattle.theorems.proofs.parts.compare_same.Statement.{statement}
 use Rattle.theorems.proofs.parts.compare_same.Tie as tie
 
-pub compare-same-spec : {M : Type 1} → statement M
-compare-same-spec = tie.close (tie.spec (λ c. compare_same))
+pub compare_same_spec : {M : Type 1} → statement M
+compare_same_spec = tie.close (tie.spec (λ c. compare_same))

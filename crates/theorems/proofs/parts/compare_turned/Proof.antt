@@ -3,5 +3,5 @@ use Rattle.theorems.specs.Ordered.{compare-turned}
 use Rattle.theorems.proofs.parts.compare_turned.Statement.{statement}
 use Rattle.theorems.proofs.parts.compare_turned.Tie as tie
 
-pub compare-turned-spec : {M : Type 1} → statement M
-compare-turned-spec = tie.close (tie.spec (λ c. compare-turned))
+pub compare_turned_spec : {M : Type 1} → statement M
+compare_turned_spec = tie.close (tie.spec (λ c. compare-turned))

@@ -3,5 +3,5 @@ use Rattle.theorems.specs.Dropped.{dropped-beaten-by-kept}
 use Rattle.theorems.proofs.parts.dropped_beaten_by_kept.Statement.{statement}
 use Rattle.theorems.proofs.parts.dropped_beaten_by_kept.Tie as tie
 
-pub dropped-beaten-by-kept-spec : {M : Type 1} → statement M
-dropped-beaten-by-kept-spec = tie.close (tie.spec (λ c. dropped-beaten-by-kept))
+pub dropped_beaten_by_kept_spec : {M : Type 1} → statement M
+dropped_beaten_by_kept_spec = tie.close (tie.spec (λ c. dropped-beaten-by-kept))

@@ -3,5 +3,5 @@ use Rattle.theorems.specs.Ordered.{irreflexive}
 use Rattle.theorems.proofs.parts.irreflexive.Statement.{statement}
 use Rattle.theorems.proofs.parts.irreflexive.Tie as tie
 
-pub irreflexive-spec : {M : Type 1} → statement M
-irreflexive-spec = tie.close (tie.spec (λ c. irreflexive))
+pub irreflexive_spec : {M : Type 1} → statement M
+irreflexive_spec = tie.close (tie.spec (λ c. irreflexive))

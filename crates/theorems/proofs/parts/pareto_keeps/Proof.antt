@@ -3,5 +3,5 @@ use Rattle.theorems.specs.Equally.{pareto-keeps}
 use Rattle.theorems.proofs.parts.pareto_keeps.Statement.{statement}
 use Rattle.theorems.proofs.parts.pareto_keeps.Tie as tie
 
-pub pareto-keeps-spec : {M : Type 1} → statement M
-pareto-keeps-spec = tie.close (tie.spec (λ c. pareto-keeps))
+pub pareto_keeps_spec : {M : Type 1} → statement M
+pareto_keeps_spec = tie.close (tie.spec (λ c. pareto-keeps))

@@ -3,5 +3,5 @@ use Rattle.theorems.specs.Alone.{parts-alone}
 use Rattle.theorems.proofs.parts.parts_alone.Statement.{statement}
 use Rattle.theorems.proofs.parts.parts_alone.Tie as tie
 
-pub parts-alone-spec : {M : Type 1} → statement M
-parts-alone-spec = tie.close (tie.spec (λ c. parts-alone))
+pub parts_alone_spec : {M : Type 1} → statement M
+parts_alone_spec = tie.close (tie.spec (λ c. parts-alone))

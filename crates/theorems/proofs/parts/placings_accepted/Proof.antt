@@ -3,5 +3,5 @@ use Rattle.theorems.specs.Placed.{placings-accepted}
 use Rattle.theorems.proofs.parts.placings_accepted.Statement.{statement}
 use Rattle.theorems.proofs.parts.placings_accepted.Tie as tie
 
-pub placings-accepted-spec : {M : Type 1} → statement M
-placings-accepted-spec = tie.close (tie.spec (λ c. placings-accepted))
+pub placings_accepted_spec : {M : Type 1} → statement M
+placings_accepted_spec = tie.close (tie.spec (λ c. placings-accepted))

@@ -3,5 +3,5 @@ use Rattle.theorems.specs.Placed.{prior-keeps}
 use Rattle.theorems.proofs.parts.prior_keeps.Statement.{statement}
 use Rattle.theorems.proofs.parts.prior_keeps.Tie as tie
 
-pub prior-keeps-spec : {M : Type 1} → statement M
-prior-keeps-spec = tie.close (tie.spec (λ c. prior-keeps))
+pub prior_keeps_spec : {M : Type 1} → statement M
+prior_keeps_spec = tie.close (tie.spec (λ c. prior-keeps))

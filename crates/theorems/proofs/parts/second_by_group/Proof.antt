@@ -3,5 +3,5 @@ use Rattle.theorems.specs.Among.{second-by-group}
 use Rattle.theorems.proofs.parts.second_by_group.Statement.{statement}
 use Rattle.theorems.proofs.parts.second_by_group.Tie as tie
 
-pub second-by-group-spec : {M : Type 1} → statement M
-second-by-group-spec = tie.close (tie.spec (λ c. second-by-group))
+pub second_by_group_spec : {M : Type 1} → statement M
+second_by_group_spec = tie.close (tie.spec (λ c. second-by-group))

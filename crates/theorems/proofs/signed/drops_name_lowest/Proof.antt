@@ -3,5 +3,5 @@ use Rattle.laws.specs.Answered.{drops-name-lowest}
 use Rattle.theorems.proofs.signed.drops_name_lowest.Statement.{statement}
 use Rattle.theorems.proofs.signed.drops_name_lowest.Tie as tie
 
-pub drops-name-lowest-spec : {M : Type 1} → statement M
-drops-name-lowest-spec = tie.close (tie.spec (λ c. drops-name-lowest))
+pub drops_name_lowest_spec : {M : Type 1} → statement M
+drops_name_lowest_spec = tie.close (tie.spec (λ c. drops-name-lowest))

@@ -3,5 +3,5 @@ use Rattle.laws.specs.Answered.{gives-and-writes}
 use Rattle.theorems.proofs.signed.gives_and_writes.Statement.{statement}
 use Rattle.theorems.proofs.signed.gives_and_writes.Tie as tie
 
-pub gives-and-writes-spec : {M : Type 1} → statement M
-gives-and-writes-spec = tie.close (tie.spec (λ c. gives-and-writes))
+pub gives_and_writes_spec : {M : Type 1} → statement M
+gives_and_writes_spec = tie.close (tie.spec (λ c. gives-and-writes))

@@ -3,5 +3,5 @@ use Rattle.laws.specs.Answered.{keeps-unbeaten}
 use Rattle.theorems.proofs.signed.keeps_is_unbeaten.Statement.{statement}
 use Rattle.theorems.proofs.signed.keeps_is_unbeaten.Tie as tie
 
-pub keeps-is-unbeaten-spec : {M : Type 1} → statement M
-keeps-is-unbeaten-spec = tie.close (tie.spec (λ c. keeps-unbeaten))
+pub keeps_is_unbeaten_spec : {M : Type 1} → statement M
+keeps_is_unbeaten_spec = tie.close (tie.spec (λ c. keeps-unbeaten))

@@ -3,5 +3,5 @@ use Rattle.theorems.specs.Joined.{query-refuses-none}
 use Rattle.theorems.proofs.signed.query_refuses_none.Statement.{statement}
 use Rattle.theorems.proofs.signed.query_refuses_none.Tie as tie
 
-pub query-refuses-none-spec : {M : Type 1} → statement M
-query-refuses-none-spec = tie.close (tie.spec (λ c. query-refuses-none))
+pub query_refuses_none_spec : {M : Type 1} → statement M
+query_refuses_none_spec = tie.close (tie.spec (λ c. query-refuses-none))

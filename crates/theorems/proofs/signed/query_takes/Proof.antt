@@ -3,5 +3,5 @@ use Rattle.laws.specs.Taken.{taken-exactly}
 use Rattle.theorems.proofs.signed.query_takes.Statement.{statement}
 use Rattle.theorems.proofs.signed.query_takes.Tie as tie
 
-pub query-takes-spec : {M : Type 1} → statement M
-query-takes-spec = tie.close (tie.spec (λ c. taken-exactly))
+pub query_takes_spec : {M : Type 1} → statement M
+query_takes_spec = tie.close (tie.spec (λ c. taken-exactly))

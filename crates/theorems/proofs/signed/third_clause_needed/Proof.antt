@@ -3,5 +3,5 @@ use Rattle.theorems.specs.ThirdClause.{third-clause-needed}
 use Rattle.theorems.proofs.signed.third_clause_needed.Statement.{statement}
 use Rattle.theorems.proofs.signed.third_clause_needed.Tie as tie
 
-pub third-clause-needed-spec : {M : Type 1} → statement M
-third-clause-needed-spec = tie.close (tie.spec (λ c. third-clause-needed))
+pub third_clause_needed_spec : {M : Type 1} → statement M
+third_clause_needed_spec = tie.close (tie.spec (λ c. third-clause-needed))

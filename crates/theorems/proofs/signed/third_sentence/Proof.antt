@@ -3,5 +3,5 @@ use Rattle.theorems.specs.Joined.{third-sentence}
 use Rattle.theorems.proofs.signed.third_sentence.Statement.{statement}
 use Rattle.theorems.proofs.signed.third_sentence.Tie as tie
 
-pub third-sentence-spec : {M : Type 1} → statement M
-third-sentence-spec = tie.close (tie.spec (λ c. third-sentence))
+pub third_sentence_spec : {M : Type 1} → statement M
+third_sentence_spec = tie.close (tie.spec (λ c. third-sentence))
