@@ -23,7 +23,7 @@ pub const MOST_VALUES: usize = 16;
 // ---- records
 
 // A value of a term. Roles: 1 favourite, 2 disliked, 3 second choice, 4 edge (u worse, v better).
-#[derive(Drop)]
+#[derive(Clone, Copy)]
 pub struct Value {
     pub role: u8,
     pub u: i32,
@@ -31,7 +31,7 @@ pub struct Value {
 }
 
 // The base terms, with the numbers that stand in their own record: AROUND's wish, BETWEEN's low and up.
-#[derive(Drop)]
+#[derive(Clone, Copy)]
 pub enum BaseTerm {
     Lowest,
     Highest,
@@ -46,7 +46,7 @@ pub enum BaseTerm {
 }
 
 // How a compound of two parts joins them.
-#[derive(Drop)]
+#[derive(Clone, Copy)]
 pub enum Pair {
     Pareto,
     Prior,
@@ -54,14 +54,14 @@ pub enum Pair {
 }
 
 // The compound terms, with the record numbers of their parts: left and right, or the one part.
-#[derive(Drop)]
+#[derive(Clone, Copy)]
 pub enum CompoundTerm {
     Joined(Pair, u8, u8),
     Dual(u8),
 }
 
 // A record is a value, a base term (with its column) or a compound term. Unknown: its kind is not in the list.
-#[derive(Drop)]
+#[derive(Clone, Copy)]
 pub enum Record {
     Value(Value),
     Base(u8, BaseTerm),
@@ -72,7 +72,7 @@ pub enum Record {
 // ---- refusals
 
 // What a call refuses, in the order of the specification's numbers, with the record where it gives a place.
-#[derive(Drop)]
+#[derive(Clone, Copy)]
 pub enum Refusal {
     Width,
     Length,
@@ -95,14 +95,14 @@ pub enum Refusal {
 }
 
 // The place of a refusal.
-#[derive(Drop)]
+#[derive(Clone, Copy)]
 pub enum Place {
     Nowhere,
     At(u8),
 }
 
 // What the tests of a call come to: its first refusal, or none.
-#[derive(Drop)]
+#[derive(Clone, Copy)]
 pub enum Verdict {
     Passed,
     Refused(Refusal),
@@ -111,7 +111,7 @@ pub enum Verdict {
 // ---- replies
 
 // Number of records, top, the columns that the top reads (bit j for column j), and how many these are.
-#[derive(Drop)]
+#[derive(Clone, Copy)]
 pub struct Summary {
     pub records: u8,
     pub top: u8,
@@ -119,14 +119,14 @@ pub struct Summary {
     pub count: u32,
 }
 
-#[derive(Drop)]
+#[derive(Clone, Copy)]
 pub enum CheckReply {
     Accepted(Summary),
     Refused(Refusal),
 }
 
 // How two rows compare: equal in the term's columns, the first better, the second better, or unranked.
-#[derive(Drop)]
+#[derive(Clone, Copy)]
 pub enum Outcome {
     Same,
     First,
@@ -134,27 +134,27 @@ pub enum Outcome {
     Unranked,
 }
 
-#[derive(Drop)]
+#[derive(Clone, Copy)]
 pub enum CompareReply {
     Compared(Outcome),
     Refused(Refusal),
 }
 
 // How many rows were kept.
-#[derive(Drop)]
+#[derive(Clone, Copy)]
 pub enum QueryReply {
     Kept(u16),
     Refused(Refusal),
 }
 
 // Whether a row is perfect.
-#[derive(Drop)]
+#[derive(Clone, Copy)]
 pub enum Mark {
     No,
     Yes,
 }
 
-#[derive(Drop)]
+#[derive(Clone, Copy)]
 pub enum PerfectReply {
     Marked(Mark),
     Refused(Refusal),

@@ -10,25 +10,16 @@ use Rattle.rows.specs.Stretch.{stretch-in}
 use Rattle.rows.proofs.Filled.{filled-block, filled-column}
 use Rattle.rows.proofs.vetted.cells.fill_block.Goals as goal
 
-row : (c : tie.In-loop invariant-loop decreases-loop)
-    → c.before.before.before.args.b * 64 * c.before.before.before.args.columns
-    + c.before.before.before.args.columns
-    ≤ length c.before.before.before.args.rows.now
-row c =
-    let s = c.before.before.before in
-    row_in s.args.n s.args.columns (length s.args.rows.now) s.requires.0 (s.args.b * 64) s.requires.3
-
-
 pub loop-c-init : goal.loop-c-init
 loop-c-init c = (search rules, refl, c.requires.5)
 
 
 pub overflow_mul-from : goal.overflow_mul-from
-overflow_mul-from c = omega (arith, row c)
+overflow_mul-from c = omega (arith, (row_in c.args.n c.args.columns (length c.args.rows.now) c.requires.0 (c.args.b * 64) c.requires.3))
 
 
 pub overflow_add-from : goal.overflow_add-from
-overflow_add-from c = omega (arith, row c)
+overflow_add-from c = omega (arith, (row_in c.args.n c.args.columns (length c.args.rows.now) c.requires.0 (c.args.b * 64) c.requires.3))
 
 
 pub copy_stretch-requires : goal.copy_stretch-requires
