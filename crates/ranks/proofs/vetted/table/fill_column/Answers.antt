@@ -14,11 +14,8 @@ use Rattle.rows.specs.Places.{row_in}
 use Rattle.rows.specs.Stretch.{stretch-in, cell_at}
 use Rattle.ranks.specs.Rank.{RankAt}
 use Rattle.ranks.proofs.Filled.{Ranking, ranking-none, ranking-more, ranked-all}
+use Rattle.ranks.proofs.vetted.table.fill_column.Invariants.{RankOf}
 use Rattle.ranks.proofs.vetted.table.fill_column.Goals as goal
-
-abbrev RankOf : List ℕ → List ℕ → ℕ → ℕ → BaseTerm → ℕ → List ℤ → ℕ → ℤ → Type 0
-RankOf table ends k column b columns rows r x = RankAt table k (get_or ends k 0) b (cell (row_at columns rows r) column) x
-
 
 pub loop-i-init : goal.loop-i-init
 loop-i-init c =

@@ -17,6 +17,10 @@ use Rattle.ranks.specs.Rank.{RankAt}
 use Rattle.ranks.proofs.Filled.{Ranking, ranking-none, ranking-more, ranked-all}
 use Rattle.ranks.proofs.vetted.table.fill_column.Given as goal
 
+abbrev pub RankOf : List ℕ → List ℕ → ℕ → ℕ → BaseTerm → ℕ → List ℤ → ℕ → ℤ → Type 0
+RankOf table ends k column b columns rows r x = RankAt table k (get_or ends k 0) b (cell (row_at columns rows r) column) x
+
+
 abbrev pub invariant-loop-i : goal.invariant-loop-i
 invariant-loop-i l =
     (l.i * 64 ≤ length l.initial.ranks) × (length l.ranks ≡ length l.initial.ranks)
