@@ -4,5 +4,5 @@ use Rattle.pick_text.proofs.Files.{first-bytes}
 use Rattle.pick_text.proofs.first_bytes_decide.Statement.{statement}
 use Rattle.pick_text.proofs.first_bytes_decide.Tie as tie
 
-pub first-bytes-decide-spec : {M : Type 1} → statement M
-first-bytes-decide-spec = tie.close (tie.spec (λ c prefs rows. search (first-bytes, rules)))
+pub first_bytes_decide_spec : {M : Type 1} → statement M
+first_bytes_decide_spec = tie.close (tie.spec (λ c prefs rows. search (first-bytes, rules)))

@@ -1,0 +1,84 @@
+use mathlib.Core.Path.{◌≡◌}
+use mathlib.Core.Logic.{⊎_elim}
+use Prim.Native.Nat.{◌-◌, ◌≤◌}
+use native.Mathlib.Omega.{arith}
+use Rattle.rows.specs.Places.{row_in}
+use Rattle.demands.specs.Leaving.{marked}
+use Rattle.demands.specs.Gathered.{Buffers, Gathered}
+use Rattle.demands.proofs.Gathering.{gathered_none, gathered-more, gathered-same, gathered-few}
+use Rattle.demands.proofs.agreement.left.gather.Goals as goal
+
+pub loop-k-init : goal.loop-k-init
+loop-k-init c =
+    let a = c.args in (
+      omega arith,
+      gathered_none a.columns a.rows.now (marked a.stay.now) a.left.now a.old.now,
+      c.requires.1,
+    )
+
+
+pub bounds-stay-k : goal.bounds-stay-k
+bounds-stay-k c = omega arith
+
+
+pub put_row-requires : goal.put_row-requires
+put_row-requires c =
+    let a = c.args in
+    let v = c.loop-k.invariant in
+    let w = gathered-few a.columns a.rows.now (marked a.stay.now) c.loop-k.k c.loop-k.m _ _ v.1 in (
+      record {
+        few = c.requires.0.few;
+        in_run = row_in a.n a.columns _ c.requires.0.run c.loop-k.k (omega arith);
+        low = omega (arith, c.requires.0.most);
+        room = omega (arith, c.requires.0.most, w);
+      },
+      v.2,
+    )
+
+
+pub overflow_add-m : goal.overflow_add-m
+overflow_add-m c =
+    let a = c.args in
+    let w = gathered-few a.columns a.rows.now (marked a.stay.now) c.loop-k.k c.loop-k.m _ _
+    c.loop-k.invariant.1 in
+    omega (arith, w, c.requires.0.most)
+
+
+pub overflow_add-k : goal.overflow_add-k
+overflow_add-k c = omega arith
+
+
+pub loop-k-smaller : goal.loop-k-smaller
+loop-k-smaller c = omega arith
+
+
+pub loop-k-preserved : goal.loop-k-preserved
+unfolding marked
+loop-k-preserved c =
+    let a = c.args in
+    let v = c.loop-k.invariant in
+    let stays = marked a.stay.now in
+    ⊎_elim
+    (λ w. (
+      omega arith,
+      rw (w.4, w.5, w.6)
+          (gathered-more a.columns a.rows.now stays c.loop-k.k c.loop-k.m c.loop-k.left c.loop-k.old
+          v.1 _ _ w.0.taken w.3.ensures.0 w.3.ensures.1),
+      rw (w.4, w.5) w.3.ensures.2,
+    ))
+    (λ w. (
+      omega arith,
+      rw (w.1, w.2, w.3)
+          (gathered-same a.columns a.rows.now stays c.loop-k.k c.loop-k.m c.loop-k.left c.loop-k.old
+          v.1 w.0.left),
+      rw (w.1, w.2) v.2,
+    ))
+    c.if-stay-k.branch
+
+
+pub returns : goal.returns
+returns c =
+    let v = c.loop-k.invariant in
+    let e : c.loop-k.k ≡ c.args.n = omega arith in
+    (rw e at v.1, v.2)
+

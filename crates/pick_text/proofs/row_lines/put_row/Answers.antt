@@ -1,0 +1,21 @@
+-- `pick_text::row_lines::put_row` meets its contract: what it puts, one after another, is the line.
+use borrow.Author.Rules.{rules}
+use native.Mathlib.Omega.{arith}
+use Rattle.pick_text.proofs.Joins.{wider, then}
+use Rattle.pick_text.proofs.RowLinesTexts.{kept, dropped}
+use Rattle.pick_text.proofs.row_lines.put_row.Goals as goal
+
+pub returns-then-e-i : goal.returns-then-e-i
+returns-then-e-i c =
+    wider (then c.put_number-a.ensures c.put.ensures) (kept _ _ c.if-e-i.true) (omega arith)
+
+
+pub returns : goal.returns
+returns c =
+    wider
+    (then
+    (then (then c.put_number-a.ensures c.put-b.ensures) c.put_number-c.ensures)
+    c.put_byte.ensures)
+    (dropped _ _ c.if-e-i.false)
+    (omega arith)
+
