@@ -36,9 +36,8 @@ mark_apart-requires c =
 pub queried_again-requires : goal.queried_again-requires
 queried_again-requires c =
     let a = c.args in
-    let g = c.whole-1.given in
     replied-answers a.table.now a.columns a.rows.now a.term a.group a.answers.now _
-    c.query_direct-whole.result c.query_direct-whole.ensures.0 c.query_direct-whole.ensures.1 g.0.0 g.1
+    c.query_direct-whole.result c.query_direct-whole.ensures.0 c.query_direct-whole.ensures.1 c.in-Kept.total c.in-Kept.is
 
 
 pub returns-in-Refused : goal.returns-in-Refused
@@ -68,7 +67,6 @@ pub returns-in-Kept : goal.returns-in-Kept
 unfolding merges merges_buffer first_count row_count
 returns-in-Kept c =
     let a = c.args in
-    let g = c.whole-1.given in
     let e = c.query_direct-whole.ensures in
     let said =
     said-kept a.table.now a.columns a.rows.now a.term a.group a.answers.now a.again.now _
@@ -76,7 +74,7 @@ returns-in-Kept c =
     (λ i h. c.mark_apart.ensures i h
     ∙ ap (λ (k : ℕ). kept_by_split a.table.now a.columns a.rows.now k a.term a.group i)
     c.first_count-first.ensures)
-    g.0.0 g.1 c.queried_again.result _ c.queried_again.ensures.0 c.queried_again.ensures.1 in (
+    c.in-Kept.total c.in-Kept.is c.queried_again.result _ c.queried_again.ensures.0 c.queried_again.ensures.1 in (
       said.0,
       e.1,
       said.1,

@@ -14,7 +14,7 @@ pub reply_witnessed-requires : goal.reply_witnessed-requires
 reply_witnessed-requires c =
     let a = c.args in
     replied-answers a.table.now a.columns a.rows.now a.term a.group
-    c.query_direct-direct.new.1.1.1.1.1.0 _
+    c.query_direct-direct.new.answers _
     c.query_by_parts-parts.result c.query_by_parts-parts.ensures.0 c.query_by_parts-parts.ensures.1
 
 
@@ -23,7 +23,7 @@ returns c =
     let a = c.args in
     let both =
     both-witnessed a.table.now a.columns a.rows.now a.term a.group a.answers.now
-    c.query_direct-direct.new.1.1.1.1.1.0 _ c.query_direct-direct.result c.query_by_parts-parts.result
+    c.query_direct-direct.new.answers _ c.query_direct-direct.result c.query_by_parts-parts.result
     c.reply_witnessed-witnessed.result c.reply_witnessed.result
     c.query_direct-direct.ensures.0 c.query_direct-direct.ensures.1 c.reply_witnessed-witnessed.ensures
     c.query_by_parts-parts.ensures.0 c.query_by_parts-parts.ensures.1 c.reply_witnessed.ensures in (

@@ -15,10 +15,9 @@ use Rattle.demands.proofs.leaving.left_out.Goals as goal
 pub nonzero_div-rows : goal.nonzero_div-rows
 nonzero_div-rows c =
     let a = c.args in
-    let g = c.whole-1.given in
     let n =
     replied-answers a.table.now a.columns a.rows.now a.term a.group a.answers.now _
-    c.query_direct-whole.result c.query_direct-whole.ensures.0 c.query_direct-whole.ensures.1 g.0.0 g.1 in
+    c.query_direct-whole.result c.query_direct-whole.ensures.0 c.query_direct-whole.ensures.1 c.in-Kept.total c.in-Kept.is in
     n.some
 
 
@@ -26,19 +25,17 @@ pub mark_spared-requires : goal.mark_spared-requires
 unfolding row_count
 mark_spared-requires c =
     let a = c.args in
-    let g = c.whole-1.given in
     let n =
     replied-answers a.table.now a.columns a.rows.now a.term a.group a.answers.now _
-    c.query_direct-whole.result c.query_direct-whole.ensures.0 c.query_direct-whole.ensures.1 g.0.0 g.1 in
+    c.query_direct-whole.result c.query_direct-whole.ensures.0 c.query_direct-whole.ensures.1 c.in-Kept.total c.in-Kept.is in
     record { long = n.long; few = omega (arith, n.most); room = length-replicate 1024 false }
 
 
 pub queried_again-requires : goal.queried_again-requires
 queried_again-requires c =
     let a = c.args in
-    let g = c.whole-1.given in
     replied-answers a.table.now a.columns a.rows.now a.term a.group a.answers.now _
-    c.query_direct-whole.result c.query_direct-whole.ensures.0 c.query_direct-whole.ensures.1 g.0.0 g.1
+    c.query_direct-whole.result c.query_direct-whole.ensures.0 c.query_direct-whole.ensures.1 c.in-Kept.total c.in-Kept.is
 
 
 pub returns-in-Refused : goal.returns-in-Refused
@@ -68,14 +65,13 @@ pub returns-in-Kept : goal.returns-in-Kept
 unfolding left_out left_out_buffer row_count
 returns-in-Kept c =
     let a = c.args in
-    let g = c.whole-1.given in
     let e = c.query_direct-whole.ensures in
     let said =
     said-kept a.table.now a.columns a.rows.now a.term a.group a.answers.now a.again.now _
     c.query_direct-whole.result e.0 e.1 (marked _) _
     (marks-spared a.table.now a.columns a.rows.now a.term a.group a.answers.now _ a.out.now
     _ _ _ e.1 c.mark_spared.ensures.0)
-    g.0.0 g.1 c.queried_again.result _ c.queried_again.ensures.0 c.queried_again.ensures.1 in (
+    c.in-Kept.total c.in-Kept.is c.queried_again.result _ c.queried_again.ensures.0 c.queried_again.ensures.1 in (
       said.0,
       e.1,
       said.1,

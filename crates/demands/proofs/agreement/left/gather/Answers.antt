@@ -7,6 +7,7 @@ use Rattle.demands.specs.Leaving.{marked}
 use Rattle.demands.specs.Gathered.{Buffers, Gathered}
 use Rattle.demands.proofs.Gathering.{gathered_none, gathered-more, gathered-same, gathered-few}
 use Rattle.demands.proofs.agreement.left.gather.Goals as goal
+use Rattle.demands.proofs.agreement.left.gather.Goals.{then-stay-k, else-stay-k}
 
 pub loop-k-init : goal.loop-k-init
 loop-k-init c =
@@ -58,22 +59,22 @@ loop-k-preserved c =
     let a = c.args in
     let v = c.loop-k.invariant in
     let stays = marked a.stay.now in
-    ⊎_elim
-    (λ w. (
-      omega arith,
-      rw (w.4, w.5, w.6)
-          (gathered-more a.columns a.rows.now stays c.loop-k.k c.loop-k.m c.loop-k.left c.loop-k.old
-          v.1 _ _ w.0.taken w.3.ensures.0 w.3.ensures.1),
-      rw (w.4, w.5) w.3.ensures.2,
-    ))
-    (λ w. (
-      omega arith,
-      rw (w.1, w.2, w.3)
-          (gathered-same a.columns a.rows.now stays c.loop-k.k c.loop-k.m c.loop-k.left c.loop-k.old
-          v.1 w.0.left),
-      rw (w.1, w.2) v.2,
-    ))
-    c.if-stay-k.branch
+    elim c.if-stay-k.branch [
+      then-stay-k w ↦ (
+        omega arith,
+        rw (w.left-is, w.old-is, w.m-is)
+            (gathered-more a.columns a.rows.now stays c.loop-k.k c.loop-k.m c.loop-k.left c.loop-k.old
+            v.1 _ _ w.if-stay-k.true w.put_row.ensures.0 w.put_row.ensures.1),
+        rw (w.left-is, w.old-is) w.put_row.ensures.2,
+      )
+      | else-stay-k w ↦ (
+        omega arith,
+        rw (w.left-is, w.old-is, w.m-is)
+            (gathered-same a.columns a.rows.now stays c.loop-k.k c.loop-k.m c.loop-k.left c.loop-k.old
+            v.1 w.if-stay-k.false),
+        rw (w.left-is, w.old-is) v.2,
+      )
+    ]
 
 
 pub returns : goal.returns

@@ -60,13 +60,23 @@ same_answers-one-requires c =
 
 
 pub slice_bounds-left-end-2 : goal.slice_bounds-left-end-2
+unfolding row_count
 slice_bounds-left-end-2 c =
-    array-share-prefix-left c
+    let a = c.args in
+    omega (
+      arith,
+      c.gather-m.ensures.1.cells,
+      cells-few a.columns a.rows.now (marked a.stay.now) c.gather-m.result _ _ _ c.requires
+          c.gather-m.ensures.0,
+    )
 
 
 pub slice_bounds-query_by_parts-end : goal.slice_bounds-query_by_parts-end
+unfolding row_count
 slice_bounds-query_by_parts-end c =
-    slice-aggregate-query-direct c
+    let a = c.args in
+    sym (cells-length a.columns a.rows.now (marked a.stay.now) c.gather-m.result _ _ _ c.requires
+    c.gather-m.ensures.0)
 
 
 pub same_answers-requires : goal.same_answers-requires
@@ -74,7 +84,7 @@ unfolding row_count
 same_answers-requires c =
     let a = c.args in
     numbers-within a.columns a.rows.now (marked a.stay.now) c.gather-m.result _ _ _ c.requires
-    c.gather-m.ensures.0 a.table.now a.term a.group c.query_direct-direct.new.1.1.1.1.1.0 _
+    c.gather-m.ensures.0 a.table.now a.term a.group c.query_direct-direct.new.answers _
     c.query_by_parts-parts.result c.query_by_parts-parts.ensures.0 c.query_by_parts-parts.ensures.1
 
 
@@ -84,7 +94,7 @@ returns c =
     let a = c.args in
     twice a.columns a.rows.now (marked a.stay.now) c.gather-m.result _ _ _ c.requires
     c.gather-m.ensures.0 a.table.now a.term a.group a.again.now
-    c.query_direct-direct.new.1.1.1.1.1.0 _ c.query_direct-direct.result c.query_by_parts-parts.result
+    c.query_direct-direct.new.answers _ c.query_direct-direct.result c.query_by_parts-parts.result
     c.query_direct-direct.ensures.0 c.query_direct-direct.ensures.1 c.query_by_parts-parts.ensures.0
     c.query_by_parts-parts.ensures.1 a.total c.same_answers-one.result c.same_answers.result
     c.same_answers-one.ensures c.same_answers.ensures

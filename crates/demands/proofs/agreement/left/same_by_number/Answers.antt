@@ -19,13 +19,13 @@ unfolding same_by_number
 returns-then-not-same_entry c =
     let a = c.args in
     let p : ℕ → Bool = λ j. not (same_entry a.old.now a.m a.answers.now a.again.now j) in
-    sym (ap not (any-i a.m p c.loop-i.i (omega arith) (sym (ap not c.same_entry.ensures) ∙ c.if-not-same_entry.true)))
+    sym (ap not (any-i a.m p c.loop-i.i (omega arith) (ap not (sym c.same_entry.ensures ∙ c.if-not-same_entry.true))))
 
 
 pub loop-i-preserved : goal.loop-i-preserved
 unfolding any_below
 loop-i-preserved c =
-    (search rules, rw (add-one, c.loop-i.invariant.1) (sym (ap not c.same_entry.ensures) ∙ c.if-not-same_entry.false))
+    (search rules, rw (add-one, c.loop-i.invariant.1) (ap not (sym c.same_entry.ensures ∙ c.if-not-same_entry.false)))
 
 
 pub returns : goal.returns

@@ -20,13 +20,13 @@ returns-then-not-row_witnessed c =
     let a = c.args in
     let p : ℕ → Bool = λ j.
     not (witnessed a.table.now a.columns a.rows.now a.n a.term a.group a.answers.now j) in
-    sym (ap not (any-i a.n p c.loop-i.i (omega arith) (sym (ap not c.row_witnessed.ensures) ∙ c.if-not-row_witnessed.true)))
+    sym (ap not (any-i a.n p c.loop-i.i (omega arith) (ap not (sym c.row_witnessed.ensures ∙ c.if-not-row_witnessed.true))))
 
 
 pub loop-i-preserved : goal.loop-i-preserved
 unfolding any_below
 loop-i-preserved c =
-    (search rules, rw (add-one, c.loop-i.invariant.1) (sym (ap not c.row_witnessed.ensures) ∙ c.if-not-row_witnessed.false))
+    (search rules, rw (add-one, c.loop-i.invariant.1) (ap not (sym c.row_witnessed.ensures ∙ c.if-not-row_witnessed.false)))
 
 
 pub returns : goal.returns
