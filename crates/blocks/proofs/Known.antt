@@ -1,9 +1,9 @@
 -- What is known of the asked term's code in the lanes that are lit: record by record, to the codes. Assumes nothing.
-use mathlib.Core.Path.{◌≡◌, refl, sym, ◌∙◌}
+use mathlib.Core.Path.{◌≡◌, refl, ◌∙◌}
 use mathlib.Core.Logic.{⊎_elim}
 use mathlib.Core.Bool.{Bool, true, false}
 use mathlib.Core.List.{List}
-use Prim.Native.Nat.{ℕ, ◌+◌, ◌*◌, ◌<◌, ◌≤◌}
+use Prim.Native.Nat.{ℕ, ◌+◌, ◌*◌, ◌<◌}
 use native.Mathlib.Omega.{arith}
 use lib.Dec.{eqb}
 use lib.IntN.{ℤ}
@@ -14,11 +14,9 @@ use Rattle.model.specs.Term.{term_at}
 use Rattle.model.specs.Query.{row_at}
 use Rattle.model.specs.Compare.{outcome}
 use Rattle.laws.specs.Bools.{on-or-off}
-use Rattle.laws.specs.Codes.{code, code_below}
+use Rattle.laws.specs.Codes.{code_below}
 use Rattle.terms.specs.Prepared.{NextTerm}
-use Rattle.plan.specs.Told.{bits}
 use Rattle.plan.specs.Exits.{Exits, mask_at}
-use Rattle.plan.specs.Known.{Known}
 use Rattle.plan.proofs.Known.{known-none, known-silent, known_more, known-stop, known-all, known_on}
 use Rattle.laws.specs.Wrote.{Wrote}
 use Rattle.lanes.specs.KnownLanes.{start_lane, bits_lane, Ended}

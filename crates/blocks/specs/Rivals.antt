@@ -1,5 +1,5 @@
 -- The rows of a block, the first of which is row lo, that row i meets: the others that are not gone.
-use Rattle.std.specs.Prelude.{◌≡◌, Bool, false, not, ◌&&◌, List, ℕ, ◌+◌, ◌*◌, ◌<◌, eqb}
+use Rattle.std.specs.Prelude.{◌≡◌, Bool, false, not, ◌&&◌, List, ℕ, ◌+◌, ◌<◌, eqb}
 use Rattle.lanes.specs.Lit.{free, lit}
 
 -- The row of lane j is not gone, and is not row i.

@@ -1,4 +1,6 @@
 // Two rows compared under a term (SPECIFICATION, "Compare").
+#![tactic(auto)]
+
 mod compared;
 mod outcomes;
 pub mod vetted;

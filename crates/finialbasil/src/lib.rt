@@ -1,5 +1,7 @@
 // The C interface (bindings/c/finialbasil.h): one export for each public call, whose reply `c_replies` lays out. No export has
 // a `requires`.
+#![tactic(auto)]
+
 mod c_replies;
 
 ghost use Rattle.std.specs.Prelude.{◌≡◌};

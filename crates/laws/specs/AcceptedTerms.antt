@@ -5,7 +5,7 @@ use Rattle.std.proofs.Math.Path.{refl}
 use Rattle.std.proofs.Common.{ap, inl, inr, arith, pow_mono}
 use Rattle.std.proofs.lemmas.Bool.{false≢true}
 use borrow.Author.Tests.{eq-eqb, lt-ltb, not-false}
-use Rattle.model.specs.declared.{Record.Record, Value.Value, BaseTerm.BaseTerm, Pair.Pair, CompoundTerm.CompoundTerm}
+use Rattle.model.specs.declared.{Record.Record, BaseTerm.BaseTerm, Pair.Pair, CompoundTerm.CompoundTerm}
 use Rattle.model.specs.declared.BaseTerm.TheVariants.{Lowest, Highest, Around, Between, Pos, Neg, PosNeg, PosPos}
 use Rattle.model.specs.declared.BaseTerm.TheVariants.{Explicit, Any}
 use Rattle.model.specs.declared.Pair.TheVariants.{Pareto, Prior, Both}

@@ -1,2 +1,4 @@
+#![tactic(auto)]
+
 // Theorems about the definitions of `model`, and laws that the code rests on. No code (specs/); `theorems` states those that a
 // reader should read.

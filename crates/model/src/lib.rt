@@ -1,5 +1,6 @@
 // The vocabulary of the specification: its limits, a table's records as they are decoded, and what the calls reply.
 // What each of them means stands in specs/, in the order that specs/Lib.antt gives.
+#![tactic(auto)]
 
 pub mod cases;
 

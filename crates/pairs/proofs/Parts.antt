@@ -8,7 +8,6 @@ use native.Mathlib.Omega.{arith}
 use lib.IntN.{ℤ}
 use lib.ListN.{length}
 use Rattle.model.specs.Better.{Row}
-use Rattle.model.specs.Query.{row_at}
 use Rattle.laws.specs.AcceptedTable.{accepted-table}
 use Rattle.rows.specs.Places.{row_in, row-length}
 use Rattle.pairs.specs.Pairs.{Comparable, RowOf}

@@ -1,4 +1,6 @@
 // Two rows of a run compared by their ranks, record by record, until the outcome is known; for the direct engine.
+#![tactic(auto)]
+
 mod codes;
 mod records;
 mod values;

@@ -1,10 +1,7 @@
 -- What the steps of the engine by parts ask, from what a call takes. Assumes nothing.
-use mathlib.Core.Path.{◌≡◌}
 use mathlib.Core.Bool.{Bool}
 use mathlib.Core.List.{List}
-use Prim.Native.Nat.{ℕ, ◌+◌, ◌*◌, ◌/◌, ◌≤◌}
-use native.Mathlib.Nat.{mul-le-mul_right}
-use native.Mathlib.Omega.{arith}
+use Prim.Native.Nat.{ℕ, ◌+◌}
 use lib.IntN.{ℤ}
 use lib.ListN.{length}
 use Rattle.terms.specs.Prepared.{Numbers, RunEnds, Reached}
@@ -14,7 +11,6 @@ use Rattle.plan.specs.Beneath.{Marked}
 use Rattle.ranks.specs.Ranked.{Ranked}
 use Rattle.blocks.specs.Ready.{Ready}
 use Rattle.selection.specs.Selected.{AskedRows, StrideFor}
-use Rattle.selection.specs.Ranks.{room_for}
 
 module _ {table : List ℕ} {columns term : ℕ} {rows : List ℤ} {n stride : ℕ}
     (asked : AskedRows table columns term rows n) (strides : StrideFor term stride) where

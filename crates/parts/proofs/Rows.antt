@@ -3,16 +3,14 @@ use mathlib.Core.Path.{◌≡◌, refl, sym, ◌∙◌}
 use mathlib.Core.Logic.{inl, inr, ⊎_elim}
 use mathlib.Core.Bool.{true, false, false≢true}
 use mathlib.Core.List.{List}
-use Prim.Native.Nat.{ℕ, ◌+◌, ◌<◌, ◌≤◌}
+use Prim.Native.Nat.{ℕ, ◌+◌, ◌<◌}
 use native.Mathlib.Omega.{arith}
 use lib.ListN.{length, get_or, set}
 use lib.Seq.{get_or-set_same, get_or-set_other}
-use borrow.Author.Tests.{eq-eqb, ne_eqb}
 use Rattle.model.specs.Search.{any_below}
 use Rattle.model.specs.Query.{kept}
 use Rattle.laws.specs.Order.{Rel}
 use Rattle.laws.specs.Cases.{equal_or_not}
-use Rattle.laws.specs.Elimination.{Settled}
 use Rattle.laws.specs.Named.{named, Right, Named, NamedTo}
 
 module _ (beats : Rel ℕ) (n : ℕ) where

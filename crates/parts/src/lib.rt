@@ -1,5 +1,7 @@
 // The engine by parts: 64 rows at a time, from the answers of the smaller wishes. Below `vetted`, the top, stand the room for
 // ranks, the rounds in which rows meet, the naming of the rows that are gone, and the answers.
+#![tactic(auto)]
+
 mod block_entries;
 mod block_names;
 mod entries;

@@ -1,4 +1,6 @@
 // The perfect-match mark of a row (SPECIFICATION, "Perfect").
+#![tactic(auto)]
+
 mod extremes;
 mod marks;
 

@@ -1,7 +1,7 @@
 -- The text of an accepted table and a file of rows that is not refused, by the reply of Query (SPECIFICATION, "The
 -- program pick"). Assumes nothing.
 use mathlib.Core.Path.{◌≡◌, refl, ap, ◌∙◌}
-use mathlib.Core.Bool.{true, false, not}
+use mathlib.Core.Bool.{false, not}
 use mathlib.Core.List.{List, ◌++◌}
 use Prim.Native.Nat.{ℕ, zero, suc, ◌/◌, ◌%◌, ◌<◌, ◌≤◌}
 use native.Mathlib.Omega.{arith}
@@ -12,10 +12,9 @@ use borrow.Author.Tests.{eqb-true, eq-eqb, le-ltb, ltb-false, not-false}
 use Rattle.model.specs.declared.{Refusal.Refusal, Verdict.Verdict, Summary.Summary, CheckReply.CheckReply, QueryReply.QueryReply}
 use Rattle.model.specs.Search.{any_below, fill}
 use Rattle.model.specs.Bytes.{bit, numbers}
-use Rattle.model.specs.Replies.{refusals, numbered, refusal}
-use Rattle.model.specs.Check.{refuse_if, ◌then◌, by_verdict, table_verdict, summary, check_reply}
+use Rattle.model.specs.Check.{table_verdict, summary, check_reply}
 use Rattle.model.specs.Query.{answer, kept_count, row_count, fails_rows, fails_group, query_reply, query_buffer}
-use Rattle.model.specs.Pick.{refused_text, ok_text, rows_text, fails_file, pick_verdict, pick_beats, answer_text, pick_text}
+use Rattle.model.specs.Pick.{ok_text, rows_text, fails_file, pick_verdict, pick_beats, answer_text, pick_text}
 use Rattle.laws.specs.Members.{or_off}
 use Rattle.laws.specs.Fill.{fill-in}
 use Rattle.laws.specs.Accepted.{accepted-gives, reply-verdict, reply-summary}

@@ -1,4 +1,6 @@
 // All that `pick` prints, as a function of the bytes of its two files (SPECIFICATION, "The program pick").
+#![tactic(auto)]
+
 mod answer_text;
 mod fields;
 mod lines;

@@ -1,7 +1,7 @@
 -- What is known of the asked term's code grows record by record, and becomes the whole code. Assumes nothing.
 use mathlib.Core.Path.{◌≡◌, refl, sym, ◌∙◌}
 use mathlib.Core.Logic.{⊎_elim}
-use mathlib.Core.Bool.{Bool, true, false, not, ◌&&◌}
+use mathlib.Core.Bool.{not, ◌&&◌}
 use mathlib.Core.List.{List}
 use Prim.Native.Nat.{ℕ, ◌+◌, ◌<◌, ◌≤◌}
 use native.Mathlib.Omega.{arith}
@@ -17,7 +17,7 @@ use Rattle.laws.specs.Codes.{code, code_below}
 use Rattle.plan.specs.Told.{told_code, bits, within, holds}
 use Rattle.plan.specs.Exits.{mask_at, tells_at, Exits}
 use Rattle.plan.specs.Known.{Known}
-use Rattle.plan.proofs.Bits.{implies, implied, none-holds, none_within, told-low, both_hold, both-low, left-bits, right-bits, stop-bits, all-bits, bits-low}
+use Rattle.plan.proofs.Bits.{implied, none-holds, none_within, told-low, both_hold, both-low, left-bits, right-bits, stop-bits, all-bits, bits-low}
 
 module _ {table : List ℕ} {term : ℕ} {exits : List ℕ} (e : Exits table term exits) (x y : Row) where
   abbrev o : ℕ

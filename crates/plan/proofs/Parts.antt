@@ -1,15 +1,15 @@
 -- The masks of a compound's parts follow from its own: PARETO and BOTH have the bits of both parts, PRIOR is as its left part
 -- unless that is same, and DUAL turns its part's outcome. Assumes nothing.
-use mathlib.Core.Path.{◌≡◌, refl, sym, ◌∙◌, ap}
-use mathlib.Core.Logic.{◌⊎◌, inl, inr, ⊎_elim}
-use mathlib.Core.Bool.{Bool, true, false, cond, ◌&&◌}
+use mathlib.Core.Path.{◌≡◌, refl, ◌∙◌, ap}
+use mathlib.Core.Logic.{inl, inr, ⊎_elim}
+use mathlib.Core.Bool.{Bool, true, false, ◌&&◌}
 use mathlib.Core.List.{List}
-use Prim.Native.Nat.{ℕ, ◌+◌, ◌<◌, ◌≤◌}
+use Prim.Native.Nat.{ℕ, ◌<◌, ◌≤◌}
 use native.Mathlib.Omega.{arith}
 use lib.Bits.{bit_or}
 use lib.Dec.{eqb, ltb}
 use lib.IntN.{ℤ}
-use lib.ListN.{length, get_or, set, length-set, replicate}
+use lib.ListN.{get_or, set, replicate}
 use borrow.Author.Tests.{eqb-true, eq-eqb, ne_eqb, ltb-true}
 use Rattle.model.specs.declared.{Pair.Pair, Record.Record}
 use Rattle.model.specs.declared.CompoundTerm.TheVariants.{Joined, Dual}
@@ -27,7 +27,7 @@ use Rattle.laws.specs.AcceptedKinds.{accepted-joined, accepted-dual}
 use Rattle.laws.specs.AcceptedTerms.{accepted-sound}
 use Rattle.plan.specs.Told.{told_code, bits, within, holds, turned_mask, part_mask, own_mask}
 use Rattle.plan.specs.Exits.{mask_at, tells_at, Exits, Exitable, PartsWithin, start_mask, pushed, left_pushed, dual_pushed, joined_pushed, record_pushed}
-use Rattle.plan.proofs.Bits.{implies, implied, dual-tells, left-holds, part-holds, parts_within, own-cases, masks-low}
+use Rattle.plan.proofs.Bits.{implied, dual-tells, left-holds, part-holds, parts_within, own-cases, masks-low}
 use Rattle.plan.proofs.Masks.{mask-here, mask-other, mask-entered, mask-cleared, start-1, start-5}
 
 -- The asked term is a record of the table, which has at most 128.

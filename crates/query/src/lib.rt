@@ -1,4 +1,6 @@
 // The rows that a term keeps (SPECIFICATION, "Query"), by two engines behind one contract.
+#![tactic(auto)]
+
 ghost use Rattle.std.specs.Prelude.{◌≡◌};
 ghost use Rattle.model.specs.Query.{query_reply, query_buffer};
 

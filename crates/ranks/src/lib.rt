@@ -1,4 +1,6 @@
 // The rank of every row under every base term, once per query, for both engines: the lower is better.
+#![tactic(auto)]
+
 mod classes;
 mod distance;
 mod distances;

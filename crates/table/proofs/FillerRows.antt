@@ -7,7 +7,7 @@ use native.Mathlib.Omega.{arith}
 use lib.Dec.{eqb, ltb, leb}
 use lib.IntN.{ℤ, pos}
 use borrow.Author.Tests.{eqb-true, ne_eqb, leb-true, ltb-true, ltb-false, le-ltb}
-use Rattle.model.specs.declared.{Record.Record, Value.Value}
+use Rattle.model.specs.declared.{Record.Record}
 use Rattle.model.specs.declared.BaseTerm.TheVariants.{Lowest, Highest, Around, Between, Pos, Neg, PosNeg, PosPos}
 use Rattle.model.specs.declared.BaseTerm.TheVariants.{Explicit, Any}
 use Rattle.model.specs.declared.CompoundTerm.TheVariants.{Joined, Dual}

@@ -1,18 +1,18 @@
 -- The whole table: what WIDTH and LENGTH leave, the order of the refusals, and what the summary rests on. Assumes nothing.
 use mathlib.Core.Path.{◌≡◌, refl, sym, ◌∙◌, ap}
-use mathlib.Core.Bool.{Bool, true, false, not, ◌&&◌, ◌||◌, and_comm}
+use mathlib.Core.Bool.{Bool, false, not, ◌||◌}
 use mathlib.Core.List.{List}
 use Prim.Native.Nat.{ℕ, ◌/◌, ◌%◌, ◌<◌, ◌≤◌}
 use native.Mathlib.Omega.{arith}
 use lib.Dec.{eqb, leb, ltb}
-use lib.ListN.{length, get_or}
+use lib.ListN.{length}
 use borrow.Author.Tests.{leb-true, ltb-false, lt-ltb, not-false}
 use Rattle.model.specs.declared.{Refusal.Refusal, Verdict.Verdict}
-use Rattle.model.specs.Record.{record_count, record_at, is_term, nearest_term}
+use Rattle.model.specs.Record.{record_count, record_at}
 use Rattle.model.specs.Term.{term_at, columns_of}
 use Rattle.model.specs.Replies.{refusal}
 use Rattle.model.specs.Check.{refuse_if, ◌then◌, each_below, judge, verdict_by, table_verdict, fails_width, fails_length}
-use Rattle.model.specs.Check.{fails_loose, is_part, top_of}
+use Rattle.model.specs.Check.{fails_loose, top_of}
 use Rattle.laws.specs.Bools.{and_r}
 use Rattle.laws.specs.Members.{or_off}
 use Rattle.laws.specs.Verdicts.{each_same, each_first, then_next, then-first}

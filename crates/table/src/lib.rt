@@ -1,4 +1,6 @@
 // The table check of the specification: the bytes of a table become what the table is, or a refusal with its place.
+#![tactic(auto)]
+
 mod apart;
 mod chains;
 mod filler;

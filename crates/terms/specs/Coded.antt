@@ -1,6 +1,6 @@
 -- The code of two values (SPECIFICATION, "Compare"): same where they are equal, else by better both ways. Assumes
 -- nothing.
-use Rattle.std.specs.Prelude.{◌≡◌, true, false, List, ℕ, ℤ}
+use Rattle.std.specs.Prelude.{◌≡◌, true, false, List, ℤ}
 use Rattle.std.proofs.Common.{sym, ◌∙◌, SFits, of_z, eq-eqb, ne_eqb}
 use Rattle.std.specs.Int.{w32}
 use Rattle.model.specs.declared.{Value.Value, BaseTerm.BaseTerm}

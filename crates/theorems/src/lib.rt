@@ -2,6 +2,8 @@
 // "The calls". Each function does nothing: its `ensures` is a theorem. What is in quotation marks is a sentence of the
 // signed ones or of the specification. `signed` has the second and the third signed sentence, `parts` the parts of the
 // third, `leaving` what is said of rows left out.
+#![tactic(auto)]
+
 ghost use Rattle.std.specs.Prelude.{◌≡◌, ◌↔◌, Bool, true, List, ℕ, ◌<◌, ℤ, length};
 ghost use Rattle.model.specs.declared.{Value.Value, Refusal.Refusal, CheckReply.CheckReply};
 ghost use Rattle.model.specs.declared.{CompareReply.CompareReply, QueryReply.QueryReply, PerfectReply.PerfectReply};

@@ -1,11 +1,7 @@
 -- `compare::compare` meets its contract.
-use mathlib.Core.Path.{◌≡◌, sym, ◌∙◌}
-use mathlib.Core.Bool.{◌||◌}
+use mathlib.Core.Path.{sym, ◌∙◌}
 use native.Mathlib.Omega.{arith}
-use borrow.Author.Rules.{rules}
-use Rattle.model.specs.declared.Verdict.{Verdict}
-use Rattle.model.specs.Compare.{fails_row, term_verdict, compare_reply}
-use Rattle.laws.specs.Taken.{term-gives}
+use Rattle.model.specs.Compare.{fails_row, compare_reply}
 use Rattle.compare.proofs.OutcomesCoded.{term-below}
 use Rattle.compare.proofs.Asked.{asked_of}
 use Rattle.compare.proofs.compare.Goals as goal
@@ -22,7 +18,6 @@ overflow_cast-term c =
           (asked_of a.table.now a.columns a.term x y (sym c.term_verdict-verdict.ensures ∙ c.in-Passed.is)),
     )
 
-
 pub compared-requires : goal.compared-requires
 unfolding fails_row
 compared-requires c =
@@ -30,14 +25,11 @@ compared-requires c =
     asked_of a.table.now a.columns a.term a.first.now a.second.now
     (sym c.term_verdict-verdict.ensures ∙ c.in-Passed.is)
 
-
 pub returns-in-Refused : goal.returns-in-Refused
 unfolding compare_reply fails_row
 returns-in-Refused c = rw (sym c.term_verdict-verdict.ensures ∙ c.in-Refused.is)
-
 
 pub returns-in-Passed : goal.returns-in-Passed
 unfolding compare_reply fails_row
 returns-in-Passed c =
     rw (sym c.term_verdict-verdict.ensures ∙ c.in-Passed.is, c.compared.ensures)
-

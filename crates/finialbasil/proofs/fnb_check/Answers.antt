@@ -1,5 +1,4 @@
 -- `finialbasil::fnb_check` meets its contract, by those of its two calls.
-use borrow.Author.Rules.{rules}
 use mathlib.Core.Path.{◌∙◌, ap}
 use Rattle.model.specs.Replies.{listed_check}
 use Rattle.finialbasil.specs.Layout.{check_fields}
@@ -7,4 +6,3 @@ use Rattle.finialbasil.proofs.fnb_check.Goals as goal
 
 pub returns : goal.returns
 returns c = c.check_fields.ensures ∙ ap (λ reply. check_fields (listed_check reply)) c.check.ensures
-

@@ -1,5 +1,4 @@
 -- `finialbasil::fnb_perfect` meets its contract, by those of its two calls.
-use borrow.Author.Rules.{rules}
 use mathlib.Core.Path.{◌∙◌, ap}
 use Rattle.model.specs.Replies.{listed_perfect}
 use Rattle.finialbasil.specs.Layout.{reply_fields}
@@ -7,4 +6,3 @@ use Rattle.finialbasil.proofs.fnb_perfect.Goals as goal
 
 pub returns : goal.returns
 returns c = c.perfect_fields.ensures ∙ ap (λ reply. reply_fields (listed_perfect reply)) c.perfect.ensures.0
-

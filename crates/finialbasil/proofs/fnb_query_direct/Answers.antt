@@ -1,5 +1,4 @@
 -- `finialbasil::fnb_query_direct` meets its contract, by those of its two calls.
-use borrow.Author.Rules.{rules}
 use mathlib.Core.Path.{◌∙◌, ap}
 use Rattle.model.specs.Replies.{listed_query}
 use Rattle.finialbasil.specs.Layout.{reply_fields}
@@ -11,4 +10,3 @@ returns c = (
       ∙ ap (λ reply. reply_fields (listed_query reply)) c.query_direct.ensures.0,
   c.query_direct.ensures.1,
 )
-

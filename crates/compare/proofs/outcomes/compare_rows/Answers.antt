@@ -1,9 +1,8 @@
 use mathlib.Core.Path.{◌≡◌, refl, ◌∙◌, ap}
 use mathlib.Core.Bool.{true}
-use Prim.Native.Nat.{ℕ, ◌+◌, ◌-◌, ◌≤◌, ◌<◌}
+use Prim.Native.Nat.{◌<◌}
 use native.Mathlib.Omega.{arith}
-use lib.ListN.{length, get_or, length-set}
-use borrow.Author.Rules.{rules}
+use lib.ListN.{length-set}
 use Rattle.model.specs.Record.{record_at, is_term}
 use Rattle.model.specs.Term.{term_at}
 use Rattle.model.specs.Compare.{outcome}
@@ -15,28 +14,23 @@ use Rattle.compare.proofs.outcomes.compare_rows.Goals as goal
 pub loop-k-init : goal.loop-k-init
 loop-k-init c = (omega arith, refl, λ i h. absurd (omega arith))
 
-
 pub record_code-c-requires : goal.record_code-c-requires
 record_code-c-requires c =
     let a = c.args in
     record-ready a.table.now a.numbers.now a.ends.now a.reach.now a.term a.first.now a.second.now c.requires c.loop-k.k (omega arith)
-
 
 pub bounds-codes-at : goal.bounds-codes-at
 bounds-codes-at c =
     let a = c.args in
     omega (arith, term-below a.table.now a.term a.first.now a.second.now c.requires.asked)
 
-
 pub overflow_add-k : goal.overflow_add-k
 overflow_add-k c =
     let a = c.args in
     omega (arith, term-below a.table.now a.term a.first.now a.second.now c.requires.asked)
 
-
 pub loop-k-smaller : goal.loop-k-smaller
 loop-k-smaller c = omega arith
-
 
 pub loop-k-preserved : goal.loop-k-preserved
 loop-k-preserved c =
@@ -48,12 +42,10 @@ loop-k-preserved c =
           (λ t. c.record_code-c.ensures ∙ code-next a.table.now a.numbers.now a.ends.now a.reach.now a.term a.first.now a.second.now c.requires c.loop-k.k (omega arith) c.loop-k.codes c.loop-k.invariant.2 t),
     )
 
-
 pub bounds-codes-at-2 : goal.bounds-codes-at-2
 bounds-codes-at-2 c =
     let a = c.args in
     term-below a.table.now a.term a.first.now a.second.now c.requires.asked
-
 
 pub returns : goal.returns
 returns c =
@@ -61,4 +53,3 @@ returns c =
     c.outcome_of.ensures
     ∙ ap outcome_of (c.loop-k.invariant.2 a.term (omega arith) c.requires.asked.taken.is_record)
     ∙ outcome-of-code (outcome (term_at a.table.now a.term) a.first.now a.second.now)
-

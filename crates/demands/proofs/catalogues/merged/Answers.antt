@@ -3,7 +3,6 @@ use mathlib.Core.Path.{◌∙◌, ap}
 use mathlib.Core.Bool.{false}
 use Prim.Native.Nat.{ℕ}
 use lib.ListN.{length-replicate}
-use borrow.Author.Rules.{rules}
 use Rattle.model.specs.Query.{row_count}
 use Rattle.demands.specs.Leaving.{marked, first_count, kept_by_split, merges, merges_buffer}
 use Rattle.demands.proofs.Witnesses.{replied-answers}
@@ -19,7 +18,6 @@ nonzero_div-n c =
     c.query_direct-whole.result c.query_direct-whole.ensures.0 c.query_direct-whole.ensures.1 c.in-Kept.total c.in-Kept.is in
     n.some
 
-
 pub mark_apart-requires : goal.mark_apart-requires
 unfolding row_count first_count
 mark_apart-requires c =
@@ -32,13 +30,11 @@ mark_apart-requires c =
       length-replicate 1024 false,
     )
 
-
 pub queried_again-requires : goal.queried_again-requires
 queried_again-requires c =
     let a = c.args in
     replied-answers a.table.now a.columns a.rows.now a.term a.group a.answers.now _
     c.query_direct-whole.result c.query_direct-whole.ensures.0 c.query_direct-whole.ensures.1 c.in-Kept.total c.in-Kept.is
-
 
 pub returns-in-Refused : goal.returns-in-Refused
 unfolding merges merges_buffer
@@ -61,7 +57,6 @@ returns-in-Refused c =
           })
           long room,
     )
-
 
 pub returns-in-Kept : goal.returns-in-Kept
 unfolding merges merges_buffer first_count row_count
@@ -88,4 +83,3 @@ returns-in-Kept c =
           })
           long room,
     )
-

@@ -1,5 +1,4 @@
 -- `demands::engines::beaten_by_kept` meets its contract, by those of the two engines.
-use borrow.Author.Rules.{rules}
 use Rattle.demands.proofs.Witnesses.{replied-answers, both-witnessed}
 use Rattle.demands.proofs.engines.beaten_by_kept.Goals as goal
 
@@ -9,14 +8,12 @@ reply_witnessed-witnessed-requires c =
     replied-answers a.table.now a.columns a.rows.now a.term a.group a.answers.now _
     c.query_direct-direct.result c.query_direct-direct.ensures.0 c.query_direct-direct.ensures.1
 
-
 pub reply_witnessed-requires : goal.reply_witnessed-requires
 reply_witnessed-requires c =
     let a = c.args in
     replied-answers a.table.now a.columns a.rows.now a.term a.group
     c.query_direct-direct.new.answers _
     c.query_by_parts-parts.result c.query_by_parts-parts.ensures.0 c.query_by_parts-parts.ensures.1
-
 
 pub returns : goal.returns
 returns c =
@@ -37,4 +34,3 @@ returns c =
           })
           long,
     )
-

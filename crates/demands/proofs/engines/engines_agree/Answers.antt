@@ -1,5 +1,4 @@
 -- `demands::engines::engines_agree` meets its contract, by those of the two engines.
-use borrow.Author.Rules.{rules}
 use Rattle.demands.proofs.Agreed.{agreed}
 use Rattle.demands.proofs.engines.engines_agree.Goals as goal
 
@@ -11,4 +10,3 @@ returns c =
     c.query_direct-direct.ensures.0 c.query_direct-direct.ensures.1
     c.query_by_parts-parts.ensures.0 c.query_by_parts-parts.ensures.1
     c.same_reply.result c.same_entries.result c.same_reply.ensures c.same_entries.ensures
-

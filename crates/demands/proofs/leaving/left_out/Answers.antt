@@ -3,7 +3,6 @@ use mathlib.Core.Path.{◌∙◌}
 use mathlib.Core.Bool.{false}
 use native.Mathlib.Omega.{arith}
 use lib.ListN.{length-replicate}
-use borrow.Author.Rules.{rules}
 use Rattle.model.specs.Query.{row_count}
 use Rattle.demands.specs.Leaving.{marked, left_out, left_out_buffer}
 use Rattle.demands.proofs.Witnesses.{replied-answers}
@@ -20,7 +19,6 @@ nonzero_div-rows c =
     c.query_direct-whole.result c.query_direct-whole.ensures.0 c.query_direct-whole.ensures.1 c.in-Kept.total c.in-Kept.is in
     n.some
 
-
 pub mark_spared-requires : goal.mark_spared-requires
 unfolding row_count
 mark_spared-requires c =
@@ -30,13 +28,11 @@ mark_spared-requires c =
     c.query_direct-whole.result c.query_direct-whole.ensures.0 c.query_direct-whole.ensures.1 c.in-Kept.total c.in-Kept.is in
     record { long = n.long; few = omega (arith, n.most); room = length-replicate 1024 false }
 
-
 pub queried_again-requires : goal.queried_again-requires
 queried_again-requires c =
     let a = c.args in
     replied-answers a.table.now a.columns a.rows.now a.term a.group a.answers.now _
     c.query_direct-whole.result c.query_direct-whole.ensures.0 c.query_direct-whole.ensures.1 c.in-Kept.total c.in-Kept.is
-
 
 pub returns-in-Refused : goal.returns-in-Refused
 unfolding left_out left_out_buffer
@@ -59,7 +55,6 @@ returns-in-Refused c =
           })
           long room,
     )
-
 
 pub returns-in-Kept : goal.returns-in-Kept
 unfolding left_out left_out_buffer row_count
@@ -85,4 +80,3 @@ returns-in-Kept c =
           })
           long room,
     )
-

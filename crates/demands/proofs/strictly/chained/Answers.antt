@@ -1,5 +1,4 @@
 -- `demands::strictly::chained` meets its contract, by that of `compare`.
-use borrow.Author.Rules.{rules}
 use Rattle.demands.specs.Given.{gives_chained}
 use Rattle.demands.proofs.Replies.{chained-passes}
 use Rattle.demands.proofs.strictly.chained.Goals as goal
@@ -21,4 +20,3 @@ returns c =
           (chained-passes a.table.now a.columns a.term
           (record { is_accepted = ok; below = low; is_record = is }) a.x.now a.y.now a.z.now e f g),
     )
-

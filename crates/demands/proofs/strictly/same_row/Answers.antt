@@ -1,5 +1,4 @@
 -- `demands::strictly::same_row` meets its contract, by that of `compare`.
-use borrow.Author.Rules.{rules}
 use Rattle.demands.specs.Given.{gives_same}
 use Rattle.demands.proofs.Replies.{same-passes}
 use Rattle.demands.proofs.strictly.same_row.Goals as goal
@@ -14,4 +13,3 @@ returns c =
           (same-passes a.table.now a.columns a.term
           (record { is_accepted = ok; below = low; is_record = is }) x x x e e e),
     )
-

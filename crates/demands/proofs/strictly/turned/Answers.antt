@@ -1,5 +1,4 @@
 -- `demands::strictly::turned` meets its contract, by that of `compare`.
-use borrow.Author.Rules.{rules}
 use Rattle.demands.specs.Given.{gives_turned}
 use Rattle.demands.proofs.Replies.{turned-passes}
 use Rattle.demands.proofs.strictly.turned.Goals as goal
@@ -16,4 +15,3 @@ returns c =
           (turned-passes a.table.now a.columns a.term
           (record { is_accepted = ok; below = low; is_record = is }) x y y e f f),
     )
-

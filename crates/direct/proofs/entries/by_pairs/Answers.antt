@@ -2,7 +2,6 @@
 use native.Mathlib.Omega.{arith}
 use Rattle.selection.specs.Taken.{few-columns}
 use Rattle.direct.proofs.Pairs.{cleared}
-use borrow.Author.Rules.{rules}
 use Rattle.direct.proofs.entries.by_pairs.Goals as goal
 
 pub fill_keys-requires : goal.fill_keys-requires
@@ -10,9 +9,7 @@ fill_keys-requires c =
     let p = c.requires.0 in
     (p.run, few-columns p.taken, omega arith)
 
-
 pub settled-requires : goal.settled-requires
 settled-requires c =
     let p = c.requires in
     (p.0, p.1, omega arith, c.fill_keys.ensures, cleared 64 (omega arith))
-

@@ -18,7 +18,6 @@ eliminate-requires c =
       p.3,
     )
 
-
 pub write_answers-requires : goal.write_answers-requires
 write_answers-requires c =
     let p = c.requires in
@@ -27,11 +26,9 @@ write_answers-requires c =
     let k = kept-rows _ _ _ _ _ r.0 (search (rules, p.4.of_kept)) q.0 q.1 in
     (p.0, search (rules, p.4.of_gone), search (rules, p.4.of_by), r.2, k, r.1, p.1)
 
-
 pub overflow_cast-result : goal.overflow_cast-result
 overflow_cast-result c =
     omega (arith, count_small _ _ _ c.requires.0.few c.list_kept-m.ensures.0)
-
 
 pub returns : goal.returns
 returns c =
@@ -40,4 +37,3 @@ returns c =
       counted = q.0 ∙ count_kept _ _ _ c.eliminate.ensures.0;
       written = c.write_answers.ensures;
     }
-

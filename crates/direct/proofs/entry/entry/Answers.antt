@@ -7,7 +7,6 @@ use borrow.Author.Tests.{eq-eqb, ne_eqb, eqb-true, ltb-true}
 use Rattle.laws.specs.Bools.{and_l, and_r}
 use Rattle.laws.specs.Answers.{answer-kept}
 use Rattle.direct.proofs.Sought.{answer-lowest, by-lowest}
-use borrow.Author.Rules.{rules}
 use Rattle.direct.proofs.entry.entry.Goals as goal
 
 pub returns-then-gone-i-eq0 : goal.returns-then-gone-i-eq0
@@ -15,18 +14,15 @@ returns-then-gone-i-eq0 c =
     let p = c.requires in
     (sym (answer-kept _ _ _ (sym (p.4.settled.each _ p.6) ∙ eq-eqb _ 0 c.if-gone-i-eq0.true)), p.3)
 
-
 pub overflow_cast-at : goal.overflow_cast-at
 overflow_cast-at c =
     let p = c.requires in
     omega (arith, (p.5.each _ p.6 c.if-gone-i-eq0.false).0, p.0.few)
 
-
 pub bounds-gone-at : goal.bounds-gone-at
 bounds-gone-at c =
     let p = c.requires in
     omega (arith, (p.5.each _ p.6 c.if-gone-i-eq0.false).0, p.1)
-
 
 pub returns-then-at-i : goal.returns-then-at-i
 returns-then-at-i c =
@@ -41,16 +37,13 @@ returns-then-at-i c =
       p.3,
     )
 
-
 pub first_better-requires : goal.first_better-requires
 first_better-requires c =
     let p = c.requires in
     (p.0, p.4.count, p.4.room, p.4.listed, p.6, (p.5.each _ p.6 c.if-gone-i-eq0.false).1, p.3)
-
 
 pub returns : goal.returns
 returns c =
     let p = c.requires in
     let r = c.first_better.ensures in
     (answer-lowest _ _ _ _ (sym (p.4.settled.each _ p.6) ∙ ne_eqb _ 0 c.if-gone-i-eq0.false) r.0, r.1)
-

@@ -1,21 +1,16 @@
 -- `direct::entry::first_better` meets its contract.
-use mathlib.Core.Path.{◌≡◌, ◌∙◌}
+use mathlib.Core.Path.{◌≡◌}
 use Prim.Native.Nat.{◌-◌, ◌≤◌}
-use native.Mathlib.Nat.{le_antisymm}
-use native.Mathlib.Omega.{arith}
 use lib.ListN.{length}
-use borrow.Author.Rules.{rules}
 use Rattle.model.specs.Term.{term_at}
 use Rattle.model.specs.Query.{beats_in}
-use Rattle.direct.proofs.Sought.{Sought, listed-row, sought-start, sought-more, sought-hit, sought-by, sought-end}
+use Rattle.direct.proofs.Sought.{Sought}
 use Rattle.direct.proofs.entry.first_better.Given as goal
 
 abbrev pub invariant-loop-z : goal.invariant-loop-z
 invariant-loop-z l =
     (l.z ≤ l.m) × (length l.codes ≡ 128) × Sought (beats_in (term_at l.table l.term) l.columns l.rows l.group) l.n l.i l.z
 
-
 abbrev pub decreases-loop-z : goal.decreases-loop-z
 decreases-loop-z l =
     l.m - l.z
-

@@ -1,16 +1,10 @@
 -- `direct::kept_list::list_kept` meets its contract.
-use mathlib.Core.Path.{◌≡◌, refl, sym, ap, ◌∙◌}
-use mathlib.Core.Logic.{⊎_elim}
-use Prim.Native.Nat.{ℕ, ◌+◌, ◌-◌, ◌≤◌, ◌<◌}
-use native.Mathlib.Nat.{le_antisymm}
-use native.Mathlib.Omega.{arith}
+use mathlib.Core.Path.{◌≡◌}
+use Prim.Native.Nat.{◌-◌, ◌≤◌}
 use lib.Dec.{eqb}
-use lib.ListN.{length, get_or, length-set}
-use borrow.Author.Tests.{eq-eqb, ne_eqb}
-use borrow.Author.Rules.{rules}
+use lib.ListN.{length, get_or}
 use Rattle.model.specs.Search.{count_below}
 use Rattle.direct.specs.Kept.{Listed}
-use Rattle.direct.specs.Listing.{count-start, count-pass, count-fail, listed_start, listed-skip, listed-store}
 use Rattle.direct.proofs.kept_list.list_kept.Given as goal
 
 abbrev pub invariant-loop-i : goal.invariant-loop-i
@@ -18,7 +12,5 @@ invariant-loop-i l =
     (l.i ≤ l.n) × (length l.kept ≡ length l.initial.kept) × (l.m ≡ count_below l.i (λ j. eqb (get_or l.gone j 0) 0)) × (l.m ≤ l.i)
     × Listed (λ j. eqb (get_or l.gone j 0) 0) l.i l.kept
 
-
 abbrev pub decreases-loop-i : goal.decreases-loop-i
 decreases-loop-i l = l.n - l.i
-

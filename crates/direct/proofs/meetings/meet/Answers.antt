@@ -6,7 +6,6 @@ use Rattle.model.specs.Term.{term_at}
 use Rattle.laws.specs.Meetings.{meet-gone, meet-apart, meet-code}
 use Rattle.laws.specs.Beaten.{beaten-code}
 use Rattle.pairs.proofs.Grouped.{group-first, group-second, keys-apart}
-use borrow.Author.Rules.{rules}
 use Rattle.direct.proofs.meetings.meet.Goals as goal
 
 pub returns-then-gone-j-ne0 : goal.returns-then-gone-j-ne0
@@ -14,14 +13,12 @@ returns-then-gone-j-ne0 c =
     let p = c.requires in
     (meet-gone _ _ _ _ _ p.4 p.1 c.if-gone-j-ne0.true, p.5, λ on. absurd (false≢true on), p.3.of_codes)
 
-
 pub returns-then-keys-i : goal.returns-then-keys-i
 returns-then-keys-i c =
     let a = c.args in
     let p = c.requires in
     let d = keys-apart p.6 (term_at a.table.now a.term) a.i a.j p.1 p.2 c.if-keys-i.true in
     (meet-apart _ _ _ _ _ p.4 p.1 d.0 d.1, p.5, λ on. absurd (false≢true on), p.3.of_codes)
-
 
 pub returns : goal.returns
 returns c =
@@ -34,4 +31,3 @@ returns c =
       λ on. f ∙ on,
       r.1,
     )
-

@@ -1,15 +1,10 @@
-use mathlib.Core.Path.{◌≡◌, refl, ◌∙◌}
-use Prim.Native.Nat.{◌-◌, ◌≤◌}
+use mathlib.Core.Path.{refl}
 use native.Mathlib.Nat.{le_antisymm}
 use native.Mathlib.Omega.{arith}
-use lib.ListN.{length}
 use borrow.Author.Rules.{rules}
-use Rattle.model.specs.Term.{term_at}
-use Rattle.model.specs.Query.{beats_in}
 use Rattle.laws.specs.Taken.{taken-sound}
 use Rattle.laws.specs.Strict.{ordered}
 use Rattle.laws.specs.Rows.{beats-strict}
-use Rattle.laws.specs.Elimination.{Rounds, Beaten}
 use Rattle.laws.specs.Rounds.{settled-of}
 use Rattle.direct.proofs.rounds.eliminate.Goals as goal
 
@@ -17,7 +12,6 @@ pub loop-i-init : goal.loop-i-init
 loop-i-init c =
     let p = c.requires in
     (search rules, refl, refl, p.1.of_codes, p.2, p.3)
-
 
 pub round_or_skip-requires : goal.round_or_skip-requires
 round_or_skip-requires c =
@@ -31,12 +25,10 @@ round_or_skip-requires c =
       p.4,
     )
 
-
 pub loop-i-preserved : goal.loop-i-preserved
 loop-i-preserved c =
     let r = c.round_or_skip.ensures in
     (search rules, omega arith, omega arith, r.2, r.0, r.1)
-
 
 pub returns : goal.returns
 returns c =
@@ -44,4 +36,3 @@ returns c =
     let q = le_antisymm v.0 c.loop-i-test.false in
     let s = taken-sound _ _ _ c.requires.0.taken in
     (settled-of _ _ _ (beats-strict _ _ _ _ (ordered _ s.0 s.1).strict) (rw q at v.4), v.5, v.3)
-

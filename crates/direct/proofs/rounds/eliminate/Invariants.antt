@@ -1,17 +1,10 @@
 -- `direct::rounds::eliminate` meets its contract.
-use mathlib.Core.Path.{◌≡◌, refl, ◌∙◌}
+use mathlib.Core.Path.{◌≡◌}
 use Prim.Native.Nat.{◌-◌, ◌≤◌}
-use native.Mathlib.Nat.{le_antisymm}
-use native.Mathlib.Omega.{arith}
 use lib.ListN.{length}
-use borrow.Author.Rules.{rules}
 use Rattle.model.specs.Term.{term_at}
 use Rattle.model.specs.Query.{beats_in}
-use Rattle.laws.specs.Taken.{taken-sound}
-use Rattle.laws.specs.Strict.{ordered}
-use Rattle.laws.specs.Rows.{beats-strict}
 use Rattle.laws.specs.Elimination.{Rounds, Beaten}
-use Rattle.laws.specs.Rounds.{settled-of}
 use Rattle.direct.proofs.rounds.eliminate.Given as goal
 
 abbrev pub invariant-loop-i : goal.invariant-loop-i
@@ -20,8 +13,6 @@ invariant-loop-i l =
     × Rounds (beats_in (term_at l.table l.term) l.columns l.rows l.group) l.n l.i l.gone
     × Beaten (beats_in (term_at l.table l.term) l.columns l.rows l.group) l.n l.gone l.by
 
-
 abbrev pub decreases-loop-i : goal.decreases-loop-i
 decreases-loop-i l =
     l.n - l.i
-

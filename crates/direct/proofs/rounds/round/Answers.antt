@@ -1,11 +1,6 @@
-use mathlib.Core.Path.{◌≡◌, refl, ◌∙◌}
-use Prim.Native.Nat.{◌-◌, ◌<◌}
+use mathlib.Core.Path.{refl}
 use native.Mathlib.Omega.{arith}
-use lib.ListN.{length, length-set}
-use borrow.Author.Rules.{rules}
-use Rattle.model.specs.Term.{term_at}
-use Rattle.model.specs.Query.{beats_in}
-use Rattle.laws.specs.Elimination.{Turn, Beaten}
+use lib.ListN.{length-set}
 use Rattle.laws.specs.Rounds.{turn-start, turn_end, turn-lost, met-turn}
 use Rattle.laws.specs.Beaten.{beaten-store}
 use Rattle.direct.proofs.rounds.round.Goals as goal
@@ -14,7 +9,6 @@ pub loop-j-init : goal.loop-j-init
 loop-j-init c =
     let p = c.requires in
     (refl, refl, p.2.of_codes, turn-start _ _ _ _ _ (omega arith) p.3, p.4, omega arith)
-
 
 pub meet-requires : goal.meet-requires
 meet-requires c =
@@ -29,14 +23,11 @@ meet-requires c =
       p.5,
     )
 
-
 pub shape_of-gone-then-meet : goal.shape_of-gone-then-meet
 shape_of-gone-then-meet c = simp length-set (omega arith)
 
-
 pub shape_of-by-then-meet : goal.shape_of-by-then-meet
 shape_of-by-then-meet c = simp length-set (omega arith)
-
 
 pub returns-then-meet : goal.returns-then-meet
 returns-then-meet c =
@@ -50,15 +41,12 @@ returns-then-meet c =
       r.3,
     )
 
-
 pub loop-j-preserved : goal.loop-j-preserved
 loop-j-preserved c =
     let r = c.meet.ensures in
     (omega arith, omega arith, r.3, met-turn _ _ _ _ _ r.0 c.if-meet.false, r.1, omega arith)
 
-
 pub returns : goal.returns
 returns c =
     let v = c.loop-j.invariant in
     (turn_end _ _ _ _ _ c.loop-j-test.false v.3, v.4, v.2)
-

@@ -1,5 +1,4 @@
 -- `finialbasil::c_replies::check_fields` meets its contract: each arm lays out a case of `listed_check`.
-use borrow.Author.Rules.{rules}
 use Rattle.finialbasil.specs.Layout.{check_fields}
 use Rattle.finialbasil.proofs.NoValues.{no-values}
 use Rattle.finialbasil.proofs.c_replies.check_fields.Goals as goal
@@ -7,7 +6,6 @@ use Rattle.finialbasil.proofs.c_replies.check_fields.Goals as goal
 pub returns-in-Accepted : goal.returns-in-Accepted
 unfolding check_fields
 returns-in-Accepted c = simp c.in-Accepted.is
-
 
 pub returns-in-Refused : goal.returns-in-Refused
 unfolding check_fields
@@ -19,4 +17,3 @@ returns-in-Refused c =
       c.number.ensures,
       no-values,
     )
-

@@ -6,4 +6,3 @@ use Rattle.finialbasil.proofs.c_replies.given.Goals as goal
 pub returns : goal.returns
 unfolding given_fields reply_fields
 returns c = refl
-

@@ -1,8 +1,6 @@
 -- `finialbasil::c_replies::perfect_fields` meets its contract: each arm lays out a case of `listed_perfect`.
 use mathlib.Core.Path.{◌∙◌, ap}
-use borrow.Author.Rules.{rules}
-use Rattle.model.specs.Replies.{listed_perfect}
-use Rattle.finialbasil.specs.Layout.{reply_fields, given_fields}
+use Rattle.finialbasil.specs.Layout.{given_fields}
 use Rattle.finialbasil.proofs.c_replies.perfect_fields.Goals as goal
 
 pub returns-in-Marked : goal.returns-in-Marked
@@ -11,7 +9,5 @@ returns-in-Marked c =
     rw c.in-Marked.is
     (c.given.ensures ∙ ap given_fields c.mark_number.ensures)
 
-
 pub returns-in-Refused : goal.returns-in-Refused
 returns-in-Refused c = rw c.in-Refused.is c.refused.ensures
-

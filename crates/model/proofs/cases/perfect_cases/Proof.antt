@@ -2,7 +2,7 @@
 -- Assumes nothing.
 use mathlib.Core.Path.{◌≡◌, ◌∙◌, refl}
 use mathlib.Core.Bool.{true, false}
-use mathlib.Core.List.{List, [], ◌∷◌}
+use mathlib.Core.List.{[], ◌∷◌}
 use lib.IntN.{pos}
 use Rattle.model.specs.Words.{Mark, Any, Lowest, Pareto}
 use Rattle.model.specs.Term.{Term, base, pair, dual}

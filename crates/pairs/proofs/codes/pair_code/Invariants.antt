@@ -1,23 +1,12 @@
 -- `pairs::codes::pair_code` meets its contract: the marked term records below `k` hold their codes, and what the
 -- records below `k` tell is known.
-use mathlib.Core.Path.{◌≡◌, ◌∙◌}
+use mathlib.Core.Path.{◌≡◌}
 use mathlib.Core.Bool.{true}
-use mathlib.Core.Logic.{⊎_elim}
 use Prim.Native.Nat.{◌+◌, ◌-◌, ◌≤◌, ◌<◌}
-use native.Mathlib.Omega.{arith}
-use lib.ListN.{length, length-set}
+use lib.ListN.{length}
 use Rattle.model.specs.Record.{record_at, is_term}
-use Rattle.model.specs.Term.{term_at}
-use Rattle.model.specs.Compare.{outcome}
-use Rattle.laws.specs.Codes.{code_below}
-use Rattle.plan.specs.Told.{bits}
-use Rattle.plan.specs.Exits.{mask_at}
 use Rattle.plan.specs.Known.{Known}
-use Rattle.plan.proofs.Known.{known-none, known-silent, known_more, known-stop, known-all}
-use Rattle.pairs.proofs.Coded.{term-below}
-use Rattle.pairs.proofs.Steps.{codes-none, codes-unmarked, codes-stored, known_next, first-term, next-term, next-is}
 use Rattle.pairs.specs.Pairs.{CodesBelow}
-use borrow.Author.Rules.{rules}
 use Rattle.pairs.proofs.codes.pair_code.Given as goal
 
 abbrev pub invariant-loop-k : goal.invariant-loop-k
@@ -25,7 +14,5 @@ invariant-loop-k l =
     (length l.codes ≡ 128) × (l.k ≤ l.term → is_term (record_at l.table l.k) ≡ true) × CodesBelow l.table l.marks l.first l.second l.k l.codes
     × Known l.table l.term l.exits l.first l.second l.k l.known × (l.known < 3)
 
-
 abbrev pub decreases-loop-k : goal.decreases-loop-k
 decreases-loop-k l = l.term + 1 - l.k
-

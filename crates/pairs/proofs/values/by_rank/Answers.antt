@@ -6,7 +6,6 @@ use mir.Syntax.{w32}
 use mir.Val.{to_z, of_z}
 use mir.Facts.{to_z-of_z}
 use Rattle.laws.specs.Tests.{byte_small, ranked-sum}
-use borrow.Author.Rules.{rules}
 use Rattle.pairs.proofs.values.by_rank.Goals as goal
 
 pub overflow_mul-result : goal.overflow_mul-result
@@ -15,15 +14,12 @@ overflow_mul-result c =
     let y = to_z w32 (of_z w32 c.args.y) in
     omega (arith, byte_small (le_z x y), byte_small (le_z y x))
 
-
 pub overflow_add-result : goal.overflow_add-result
 overflow_add-result c =
     let x = to_z w32 (of_z w32 c.args.x) in
     let y = to_z w32 (of_z w32 c.args.y) in
     omega (arith, byte_small (le_z x y), byte_small (le_z y x))
 
-
 pub returns : goal.returns
 returns c =
     rw (to_z-of_z c.ranges.x, to_z-of_z c.ranges.y) (omega (arith, ranked-sum false c.args.x c.args.y))
-

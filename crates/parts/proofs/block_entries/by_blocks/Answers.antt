@@ -11,7 +11,6 @@ fill_keys-requires c =
     let w = c.requires.0 in
     (w.run, few-columns w.taken, w.few)
 
-
 pub eliminate-requires : goal.eliminate-requires
 eliminate-requires c =
     let w = c.none_gone.ensures in (
@@ -25,17 +24,14 @@ eliminate-requires c =
       no-firsts _ _ _ c.requires.0.few,
     )
 
-
 pub named-requires : goal.named-requires
-named-requires c =
-    (
-      c.requires.0,
-      c.gone-4-1.given,
-      c.eliminate.ensures.0,
-      rw c.codes-2-1.given (omega arith),
-      c.requires.1,
-      c.fill_keys.ensures,
-      c.eliminate.ensures.1,
-      c.eliminate.ensures.2,
-    )
-
+named-requires c = (
+  c.requires.0,
+  c.gone-4-1.given,
+  c.eliminate.ensures.0,
+  rw c.codes-2-1.given (omega arith),
+  c.requires.1,
+  c.fill_keys.ensures,
+  c.eliminate.ensures.1,
+  c.eliminate.ensures.2,
+)

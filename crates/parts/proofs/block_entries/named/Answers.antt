@@ -12,7 +12,6 @@ first_names-requires c =
     let few = p.0.few in
     (few, rw p.1 few, few)
 
-
 pub name-requires : goal.name-requires
 name-requires c =
     let w = c.first_names.ensures in (
@@ -27,7 +26,6 @@ name-requires c =
       c.requires.7,
     )
 
-
 pub returns : goal.returns
 returns c =
     let x = c.args in
@@ -37,4 +35,3 @@ returns c =
       counted = wrote.0 ∙ count_kept _ _ _ c.requires.2;
       written = wrote.1 ∙ entries-answers _ strict _ _ _ c.requires.2 c.name.ensures x.answers.now;
     }
-

@@ -1,10 +1,8 @@
-use mathlib.Core.Path.{◌≡◌, refl}
-use Prim.Native.Nat.{◌-◌, ◌≤◌}
+use mathlib.Core.Path.{refl}
 use native.Mathlib.Omega.{arith}
 use native.Mathlib.Nat.{le_antisymm}
-use lib.ListN.{length, length-set}
+use lib.ListN.{length-set}
 use borrow.Author.Rules.{rules}
-use Rattle.laws.specs.Wrote.{Wrote}
 use Rattle.laws.specs.Writes.{wrote_none, wrote-head}
 use Rattle.parts.specs.Entry.{first_name}
 use Rattle.parts.proofs.entries.first_names.Goals as goal
@@ -12,17 +10,14 @@ use Rattle.parts.proofs.entries.first_names.Goals as goal
 pub loop-j-init : goal.loop-j-init
 loop-j-init c = (search rules, refl, wrote_none _ _ _ _)
 
-
 pub loop-j-preserved : goal.loop-j-preserved
 unfolding first_name
 loop-j-preserved c =
     let v = c.loop-j.invariant in
     (omega arith, simp length-set v.1, wrote-head _ _ _ _ _ v.2 (omega arith) c.first_name.ensures)
 
-
 pub returns : goal.returns
 returns c =
     let v = c.loop-j.invariant in
     let q = le_antisymm v.0 c.loop-j-test.false in
     rw q at v.2
-

@@ -1,17 +1,11 @@
 -- `parts::entries::write_answers` meets its contract: the rows below i have their entries, and those that are
 -- not gone are counted.
-use mathlib.Core.Path.{◌≡◌, refl, sym, ◌∙◌, ap}
-use mathlib.Core.Logic.{⊎_elim}
-use Prim.Native.Nat.{ℕ, ◌+◌, ◌-◌, ◌≤◌}
-use native.Mathlib.Nat.{le_antisymm}
-use native.Mathlib.Omega.{arith}
+use mathlib.Core.Path.{◌≡◌}
+use Prim.Native.Nat.{◌-◌, ◌≤◌}
 use lib.Dec.{eqb}
-use lib.ListN.{length, get_or, length-set}
-use borrow.Author.Rules.{rules}
+use lib.ListN.{length, get_or}
 use Rattle.model.specs.Search.{count_below, fill}
-use Rattle.laws.specs.Search.{count-bound}
 use Rattle.parts.specs.Entry.{entry_of}
-use Rattle.parts.proofs.EntriesLaws.{count-zero, count-in, count-out, fill-zero, entry-put, entry-own, entry_named}
 use Rattle.parts.proofs.entries.write_answers.Given as goal
 
 abbrev pub invariant-loop-i : goal.invariant-loop-i
@@ -19,7 +13,5 @@ invariant-loop-i l =
     (l.i ≤ l.n) × (length l.answers ≡ length l.initial.answers) × (l.kept ≡ count_below l.i (λ j. eqb (get_or l.gone j 0) 0))
     × (l.answers ≡ fill l.i (entry_of l.gone l.by) l.initial.answers)
 
-
 abbrev pub decreases-loop-i : goal.decreases-loop-i
 decreases-loop-i l = l.n - l.i
-

@@ -11,13 +11,11 @@ free_alive-requires c =
     let p = c.requires in
     (cells p.0, p.1, p.2, search rules, p.3, p.6, p.7)
 
-
 pub returns-then-any_hit : goal.returns-then-any_hit
 returns-then-any_hit c =
     let p = c.requires in
     let h = ready-hits p.0 c.free_alive.ensures c.block_codes.ensures in
     hits-lowest _ _ _ _ _ p.5 _ _ _ h c.lowest_hit.ensures
-
 
 pub returns-else-any_hit : goal.returns-else-any_hit
 returns-else-any_hit c =
@@ -25,9 +23,7 @@ returns-else-any_hit c =
     let h = ready-hits p.0 c.free_alive.ensures c.block_codes.ensures in
     hits-none _ _ _ _ _ p.5 _ _ _ h (sym c.any_hit.ensures ∙ c.if-any_hit.false)
 
-
 pub returns-else-any_lit : goal.returns-else-any_lit
 returns-else-any_lit c =
     let p = c.requires in
     dark-lowest _ _ _ _ _ p.5 (ready-dark p.0 c.free_alive.ensures (sym c.any_lit.ensures ∙ c.if-any_lit.false))
-

@@ -1,21 +1,15 @@
 -- `parts::lowest_kept::by_rows` meets its contract: the rows below i have their name.
-use mathlib.Core.Path.{◌≡◌, refl}
+use mathlib.Core.Path.{◌≡◌}
 use Prim.Native.Nat.{◌-◌, ◌≤◌}
-use native.Mathlib.Nat.{le_antisymm}
-use native.Mathlib.Omega.{arith}
 use lib.ListN.{length}
-use borrow.Author.Rules.{rules}
 use Rattle.model.specs.Term.{term_at}
 use Rattle.model.specs.Query.{beats_in}
 use Rattle.laws.specs.Named.{NamedTo}
-use Rattle.parts.proofs.Rows.{to_start, to_end}
 use Rattle.parts.proofs.lowest_kept.by_rows.Given as goal
 
 abbrev pub invariant-loop-i : goal.invariant-loop-i
 invariant-loop-i l =
     (l.i ≤ l.n) × (length l.by ≡ length l.initial.by) × (length l.codes ≡ length l.initial.codes) × NamedTo (beats_in (term_at l.table l.term) l.columns l.rows l.group) l.n l.i l.by
 
-
 abbrev pub decreases-loop-i : goal.decreases-loop-i
 decreases-loop-i l = l.n - l.i
-

@@ -12,24 +12,20 @@ rivals_alive-requires c =
     let p = c.requires in
     (cells p.0, p.1, p.2, search rules, p.3, p.5, p.7)
 
-
 pub block_codes-requires : goal.block_codes-requires
 block_codes-requires c =
     let p = c.requires in
     (p.0, p.1, p.2, rw c.live-2-1.given (omega arith), p.4)
-
 
 pub gone_lanes-requires : goal.gone_lanes-requires
 gone_lanes-requires c =
     let p = c.requires in
     (omega (arith, p.0.few, p.2, p.3), search rules, omega (arith, asked-below p.0, p.4))
 
-
 pub overflow_cast-i : goal.overflow_cast-i
 overflow_cast-i c =
     let p = c.requires in
     omega (arith, p.0.few, p.1)
-
 
 pub name_hits-requires : goal.name_hits-requires
 name_hits-requires c =
@@ -39,14 +35,12 @@ name_hits-requires c =
       rw c.codes-1.given (omega (arith, asked-below p.0, p.4)),
     )
 
-
 pub any_hit-requires : goal.any_hit-requires
 any_hit-requires c =
     let p = c.requires in (
       rw c.live-2-1.given (omega arith),
       rw c.codes-1.given (omega (arith, asked-below p.0, p.4)),
     )
-
 
 pub returns-then-any_lit : goal.returns-then-any_lit
 returns-then-any_lit c =
@@ -58,10 +52,8 @@ returns-then-any_lit c =
       firsts-some _ _ _ _ _ p.1 p.6 _ _ _ _ h g _ _ c.name_hits.ensures p.9,
     )
 
-
 pub returns : goal.returns
 returns c =
     let p = c.requires in
     let d = ready-dark p.0 c.rivals_alive.ensures (sym c.any_lit.ensures ∙ c.if-any_lit.false) in
     (meets-none _ _ _ _ _ p.1 p.6 d, p.5, p.9)
-

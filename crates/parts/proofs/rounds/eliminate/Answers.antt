@@ -1,15 +1,8 @@
-use mathlib.Core.Path.{◌≡◌, refl, ◌∙◌}
-use Prim.Native.Nat.{◌-◌, ◌≤◌}
+use mathlib.Core.Path.{refl, ◌∙◌}
 use native.Mathlib.Nat.{le_antisymm}
 use native.Mathlib.Omega.{arith}
-use lib.ListN.{length}
 use borrow.Author.Rules.{rules}
-use Rattle.model.specs.Term.{term_at}
-use Rattle.model.specs.Query.{beats_in}
-use Rattle.laws.specs.Elimination.{Rounds}
-use Rattle.laws.specs.Firsts.{Firsts}
 use Rattle.laws.specs.Rounds.{settled-of}
-use Rattle.blocks.specs.Alive.{Above}
 use Rattle.blocks.specs.Hits.{ready-strict}
 use Rattle.parts.proofs.rounds.eliminate.Goals as goal
 
@@ -18,19 +11,16 @@ loop-i-init c =
     let p = c.requires in
     (omega arith, refl, refl, p.4, p.3, refl, p.7)
 
-
 pub round_or_skip-requires : goal.round_or_skip-requires
 round_or_skip-requires c =
     let p = c.requires in
     let v = c.loop-i.invariant in
     (p.0, search rules, omega arith, omega arith, v.4, v.3, p.5, v.5 ∙ p.6, v.6)
 
-
 pub loop-i-preserved : goal.loop-i-preserved
 loop-i-preserved c =
     let e = c.round_or_skip.ensures in
     (omega arith, omega arith, omega arith, e.0, e.1, omega arith, e.2)
-
 
 pub returns : goal.returns
 returns c =
@@ -38,4 +28,3 @@ returns c =
     let p = c.requires in
     let q = le_antisymm v.0 c.loop-i-test.false in
     (settled-of _ _ _ (ready-strict p.0 _) (rw q at v.3), v.6, v.4)
-

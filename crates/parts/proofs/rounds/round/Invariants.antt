@@ -1,16 +1,12 @@
 -- `parts::rounds::round` meets its contract: row i has met the rows before block b.
-use mathlib.Core.Path.{◌≡◌, refl, ◌∙◌}
-use Prim.Native.Nat.{◌+◌, ◌*◌, ◌-◌, ◌≤◌}
-use native.Mathlib.Omega.{arith}
-use lib.ListN.{length, length-set}
-use borrow.Author.Rules.{rules}
+use mathlib.Core.Path.{◌≡◌}
+use Prim.Native.Nat.{◌*◌, ◌-◌, ◌≤◌}
+use lib.ListN.{length}
 use Rattle.model.specs.Term.{term_at}
 use Rattle.model.specs.Query.{beats_in}
 use Rattle.laws.specs.Elimination.{Turn}
 use Rattle.laws.specs.Firsts.{Firsts}
-use Rattle.laws.specs.Rounds.{turn-start, turn_end, turn-lost, met-turn}
 use Rattle.blocks.specs.Alive.{Above}
-use Rattle.blocks.specs.Meets.{above-set, firsts-set}
 use Rattle.parts.proofs.rounds.round.Given as goal
 
 abbrev pub invariant-loop-b : goal.invariant-loop-b
@@ -19,7 +15,5 @@ invariant-loop-b l =
     × Turn (beats_in (term_at l.table l.term) l.columns l.rows l.group) l.n l.i (l.b * 64) l.gone × Above l.n l.gone
     × (length l.first ≡ length l.initial.first) × Firsts (beats_in (term_at l.table l.term) l.columns l.rows l.group) l.n l.gone l.first
 
-
 abbrev pub decreases-loop-b : goal.decreases-loop-b
 decreases-loop-b l = l.n - l.b * 64
-

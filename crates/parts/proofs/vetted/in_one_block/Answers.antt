@@ -1,6 +1,5 @@
 -- `parts::vetted::in_one_block` meets its contract.
 use native.Mathlib.Omega.{arith}
-use borrow.Author.Rules.{rules}
 use Rattle.selection.specs.Ranks.{room-for-blocks}
 use Rattle.parts.proofs.vetted.in_one_block.Goals as goal
 
@@ -11,10 +10,8 @@ in_1024_ranks-requires c =
     let ranks = room-for-blocks c.args.n c.args.stride 1 1024 (omega (arith, h)) (omega (arith, k)) in
     (c.requires.0, c.requires.1, ranks, record { each = λ b l. omega (arith, h) }, c.requires.3)
 
-
 pub in_8192_ranks-requires : goal.in_8192_ranks-requires
 in_8192_ranks-requires c =
     let h = c.requires.2 in
     let ranks = room-for-blocks c.args.n c.args.stride 1 8192 (omega (arith, h)) (omega (arith, c.requires.1.narrow)) in
     (c.requires.0, c.requires.1, ranks, record { each = λ b l. omega (arith, h) }, c.requires.3)
-

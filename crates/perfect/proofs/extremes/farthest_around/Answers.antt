@@ -1,6 +1,6 @@
 -- `perfect::extremes::farthest_around` meets its contract.
 use mir.Facts.{to_z-of_z}
-use borrow.Author.Rules.{sfits_of, rules}
+use borrow.Author.Rules.{sfits_of}
 use Rattle.laws.specs.Extremes.{at_farthest}
 use Rattle.perfect.proofs.extremes.farthest_around.Goals as goal
 
@@ -18,4 +18,3 @@ returns c =
       to_z-of_z f.wish,
       to_z-of_z f.x,
     )
-

@@ -1,6 +1,6 @@
 -- `perfect::extremes::farthest_between` meets its contract.
 use mir.Facts.{to_z-of_z}
-use borrow.Author.Rules.{sfits_of, rules}
+use borrow.Author.Rules.{sfits_of}
 use Rattle.laws.specs.Extremes.{at_farthest}
 use Rattle.perfect.proofs.extremes.farthest_between.Goals as goal
 
@@ -19,4 +19,3 @@ returns c =
       to_z-of_z f.up,
       to_z-of_z f.x,
     )
-

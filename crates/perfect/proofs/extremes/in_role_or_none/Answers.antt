@@ -1,10 +1,8 @@
 -- `perfect::extremes::in_role_or_none` meets its contract.
 use mir.Facts.{to_z-of_z}
-use borrow.Author.Rules.{rules}
 use Rattle.laws.specs.Extremes.{has_role}
 use Rattle.perfect.proofs.extremes.in_role_or_none.Goals as goal
 
 pub returns : goal.returns
 unfolding has_role
 returns c = rw (c.in_role.ensures, c.has_role.ensures, to_z-of_z c.ranges.x)
-

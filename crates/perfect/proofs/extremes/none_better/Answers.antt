@@ -3,7 +3,6 @@ use native.Mathlib.Omega.{arith}
 use mir.Facts.{to_z-of_z}
 use mir.Syntax.{w32}
 use mir.Val.{SFits}
-use borrow.Author.Rules.{rules}
 use Rattle.laws.specs.Extremes.{none_better}
 use Rattle.records.proofs.Signed.{eq-bits}
 use Rattle.perfect.proofs.extremes.none_better.Goals as goal
@@ -12,17 +11,14 @@ pub returns-in-Lowest : goal.returns-in-Lowest
 unfolding none_better
 returns-in-Lowest c = rw c.in-Lowest.is (eq-bits c.ranges.x (record { sfits = omega arith }))
 
-
 pub returns-in-Highest : goal.returns-in-Highest
 unfolding none_better
 returns-in-Highest c = rw c.in-Highest.is (eq-bits c.ranges.x (record { sfits = omega arith }))
-
 
 pub returns-in-Around : goal.returns-in-Around
 unfolding none_better
 returns-in-Around c =
     rw c.in-Around.is (eq-bits c.ranges.x (record { sfits = c.in-Around.known_told-1-own.given.0.1 }))
-
 
 pub returns-in-Between : goal.returns-in-Between
 unfolding none_better
@@ -31,38 +27,31 @@ returns-in-Between c =
     let up : SFits w32 c.in-Between.up = record { sfits = c.in-Between.known_told-in-Between-1-own.given.1.0.1 } in
     rw (c.in-Between.is, to_z-of_z c.ranges.x, to_z-of_z low, to_z-of_z up)
 
-
 pub returns-in-Pos : goal.returns-in-Pos
 unfolding none_better
 returns-in-Pos c =
     rw (c.in-Pos.is, c.in_role_or_none.ensures, to_z-of_z c.ranges.x)
-
 
 pub returns-in-Neg : goal.returns-in-Neg
 unfolding none_better
 returns-in-Neg c =
     rw (c.in-Neg.is, c.in_role.ensures, to_z-of_z c.ranges.x)
 
-
 pub returns-in-PosNeg : goal.returns-in-PosNeg
 unfolding none_better
 returns-in-PosNeg c =
     rw (c.in-PosNeg.is, c.in_role_or_apart.ensures, to_z-of_z c.ranges.x)
-
 
 pub returns-in-PosPos : goal.returns-in-PosPos
 unfolding none_better
 returns-in-PosPos c =
     rw (c.in-PosPos.is, c.first_or_second.ensures, to_z-of_z c.ranges.x)
 
-
 pub returns-in-Explicit : goal.returns-in-Explicit
 unfolding none_better
 returns-in-Explicit c =
     rw (c.in-Explicit.is, c.best_end.ensures, to_z-of_z c.ranges.x)
 
-
 pub returns-in-Any : goal.returns-in-Any
 unfolding none_better
 returns-in-Any c = rw c.in-Any.is
-

@@ -1,23 +1,20 @@
-use mathlib.Core.Path.{◌≡◌, refl}
+use mathlib.Core.Path.{refl}
 use mathlib.Core.Bool.{true, false}
-use Prim.Native.Nat.{◌+◌, ◌-◌, ◌≤◌}
+use Prim.Native.Nat.{◌≤◌}
 use native.Mathlib.Omega.{arith}
-use lib.ListN.{length, get_or, length-set}
-use borrow.Author.Rules.{rules}
+use lib.ListN.{length-set}
 use Rattle.model.specs.Bytes.{byte_at}
 use Rattle.laws.specs.Records.{Bytes}
-use Rattle.perfect.proofs.MarksLaws.{Below, asked-few, marking, marks-more}
+use Rattle.perfect.proofs.MarksLaws.{asked-few, marking, marks-more}
 use Rattle.perfect.proofs.marks.marked.Goals as goal
 
 pub loop-k-init : goal.loop-k-init
 loop-k-init c = (omega arith, refl, refl, λ i h t. absurd (omega arith), λ i h t. absurd (omega arith))
 
-
 pub bounds-ends-at : goal.bounds-ends-at
 bounds-ends-at c =
     let f = asked-few c.args.table.now c.args.term c.requires.0 in
     omega arith
-
 
 pub record_mark-b-requires : goal.record_mark-b-requires
 record_mark-b-requires c =
@@ -25,31 +22,26 @@ record_mark-b-requires c =
     marking a.table.now a.numbers.now a.ends.now a.term c.requires.0 c.requires.1 c.requires.2 c.loop-k.k
     (omega arith) c.record_at.result c.record_at.ensures
 
-
 pub record_mark-w-requires : goal.record_mark-w-requires
 record_mark-w-requires c =
     let a = c.args in
     marking a.table.now a.numbers.now a.ends.now a.term c.requires.0 c.requires.1 c.requires.2 c.loop-k.k
     (omega (arith, c.loop-k-test.true)) c.record_at-in-loop-k.result c.record_at-in-loop-k.ensures
 
-
 pub bounds-best-at : goal.bounds-best-at
 bounds-best-at c =
     let f = asked-few c.args.table.now c.args.term c.requires.0 in
     omega arith
-
 
 pub bounds-worst-at : goal.bounds-worst-at
 bounds-worst-at c =
     let f = asked-few c.args.table.now c.args.term c.requires.0 in
     omega arith
 
-
 pub overflow_add-k : goal.overflow_add-k
 overflow_add-k c =
     let f = asked-few c.args.table.now c.args.term c.requires.0 in
     record { fits = omega arith }
-
 
 pub loop-k-preserved : goal.loop-k-preserved
 unfolding byte_at
@@ -73,14 +65,11 @@ loop-k-preserved c =
           (omega (arith, i.2)) i.4 i.3 c.record_mark-w.result c.record_mark-w.ensures.0,
     )
 
-
 pub bounds-best-at-2 : goal.bounds-best-at-2
 bounds-best-at-2 c =
     let f = asked-few c.args.table.now c.args.term c.requires.0 in
     omega arith
 
-
 pub returns : goal.returns
 returns c =
     c.loop-k.invariant.3 c.args.term (omega arith) c.requires.0.taken.is_record
-

@@ -1,14 +1,10 @@
 -- `perfect::marks::marked` meets its contract. The arrays hold the marks of the terms below record `k`. Assumes
 -- nothing.
-use mathlib.Core.Path.{◌≡◌, refl}
+use mathlib.Core.Path.{◌≡◌}
 use mathlib.Core.Bool.{true, false}
 use Prim.Native.Nat.{◌+◌, ◌-◌, ◌≤◌}
-use native.Mathlib.Omega.{arith}
-use lib.ListN.{length, get_or, length-set}
-use borrow.Author.Rules.{rules}
-use Rattle.model.specs.Bytes.{byte_at}
-use Rattle.laws.specs.Records.{Bytes}
-use Rattle.perfect.proofs.MarksLaws.{Below, asked-few, marking, marks-more}
+use lib.ListN.{length, get_or}
+use Rattle.perfect.proofs.MarksLaws.{Below}
 use Rattle.perfect.proofs.marks.marked.Given as goal
 
 abbrev pub invariant-loop-k : goal.invariant-loop-k
@@ -17,7 +13,5 @@ invariant-loop-k l =
     × Below l.table l.row false l.k (λ i. get_or l.best i false)
     × Below l.table l.row true l.k (λ i. get_or l.worst i false)
 
-
 abbrev pub decreases-loop-k : goal.decreases-loop-k
 decreases-loop-k l = l.term + 1 - l.k
-

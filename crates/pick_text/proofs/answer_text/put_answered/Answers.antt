@@ -12,23 +12,19 @@ put_numbers-requires c =
     let z = file-sizes c.args.rows.now c.requires.1 in
     (omega arith, omega (arith, z.0))
 
-
 pub slice_bounds-run-end : goal.slice_bounds-run-end
 slice_bounds-run-end c =
     let z = file-sizes c.args.rows.now c.requires.1 in
     omega (arith, z.0)
 
-
 pub slice_bounds-query_by_parts-end : goal.slice_bounds-query_by_parts-end
 slice_bounds-query_by_parts-end c =
     sym (ap length c.put_numbers.ensures ∙ numbers-length _ _)
-
 
 pub put_answer-requires : goal.put_answer-requires
 put_answer-requires c =
     let z = file-sizes c.args.rows.now c.requires.1 in
     (omega (arith, z.0), omega (arith, z.0), search rules)
-
 
 pub returns-in-Refused : goal.returns-in-Refused
 returns-in-Refused c =
@@ -36,11 +32,9 @@ returns-in-Refused c =
     c.put_numbers.ensures _ (omega arith) _
     (sym c.query_by_parts-reply.ensures.0 ∙ c.in-Refused.is))
 
-
 pub returns-in-Kept : goal.returns-in-Kept
 returns-in-Kept c =
     let t = kept-text c.args.prefs.now c.args.rows.now c.args.s c.requires.0 c.requires.1 _
     c.put_numbers.ensures _ (omega arith) _
     (sym c.query_by_parts-reply.ensures.0 ∙ c.in-Kept.is) in
     rw (c.query_by_parts-reply.ensures.1, t) at c.put_answer.ensures
-

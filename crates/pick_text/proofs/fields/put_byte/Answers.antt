@@ -6,4 +6,3 @@ use Rattle.pick_text.proofs.fields.put_byte.Goals as goal
 
 pub returns : goal.returns
 returns c = record { is = rw add-one (take-suc-set _ _ _ c.requires); no_more = search rules }
-

@@ -1,5 +1,4 @@
 -- `pick_text::fields::put_place` meets its contract: a place is a number or `-`.
-use borrow.Author.Rules.{rules}
 use native.Mathlib.Omega.{arith}
 use Rattle.pick_text.proofs.Joins.{wider}
 use Rattle.pick_text.proofs.Texts.{nowhere, placed}
@@ -8,7 +7,5 @@ use Rattle.pick_text.proofs.fields.put_place.Goals as goal
 pub returns-in-Nowhere : goal.returns-in-Nowhere
 returns-in-Nowhere c = wider c.put_byte.ensures (nowhere c.in-Nowhere.is) (omega arith)
 
-
 pub returns-in-At : goal.returns-in-At
 returns-in-At c = wider c.put_number.ensures (placed c.in-At.is) (omega arith)
-

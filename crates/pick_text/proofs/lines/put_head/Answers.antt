@@ -1,5 +1,4 @@
 -- `pick_text::lines::put_head` meets its contract: what it puts, one after another, is the line.
-use borrow.Author.Rules.{rules}
 use native.Mathlib.Omega.{arith}
 use Rattle.pick_text.proofs.Joins.{wider, then}
 use Rattle.pick_text.proofs.LinesTexts.{head}
@@ -17,4 +16,3 @@ returns c =
     c.put_byte.ensures)
     (head _ _)
     (omega arith)
-

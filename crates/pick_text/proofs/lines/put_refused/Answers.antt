@@ -1,5 +1,4 @@
 -- `pick_text::lines::put_refused` meets its contract: what it puts, one after another, is the line.
-use borrow.Author.Rules.{rules}
 use native.Mathlib.Omega.{arith}
 use Rattle.pick_text.proofs.Joins.{then, printed}
 use Rattle.pick_text.proofs.LinesTexts.{refused}
@@ -13,4 +12,3 @@ returns c =
     c.put_byte.ensures)
     (refused _ c.number.ensures c.place.ensures)
     (omega arith)
-

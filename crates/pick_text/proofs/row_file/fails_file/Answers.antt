@@ -6,4 +6,3 @@ use Rattle.pick_text.proofs.row_file.fails_file.Goals as goal
 pub returns : goal.returns
 unfolding fails_file
 returns c = refl
-

@@ -1,8 +1,7 @@
-use mathlib.Core.Path.{◌≡◌, refl, ◌∙◌}
-use Prim.Native.Nat.{◌-◌, ◌≤◌}
+use mathlib.Core.Path.{refl, ◌∙◌}
 use native.Mathlib.Nat.{le_antisymm}
 use native.Mathlib.Omega.{arith}
-use lib.ListN.{length, take, length-set}
+use lib.ListN.{length-set}
 use mir.Facts.{to_z-of_z}
 use borrow.Author.Rules.{sfits_of, rules}
 use Rattle.model.specs.Bytes.{numbers}
@@ -14,7 +13,6 @@ pub loop-i-init : goal.loop-i-init
 unfolding numbers
 loop-i-init c = (search rules, refl, refl)
 
-
 pub loop-i-preserved : goal.loop-i-preserved
 loop-i-preserved c =
     let a = c.args in
@@ -22,8 +20,6 @@ loop-i-preserved c =
     let e = to_z-of_z {w = w32} (sfits_of c.number_at.type_inv) ∙ c.number_at.ensures in
     (search rules, simp length-set v.1, numbers-store a.bytes.now c.loop-i.run c.loop-i.i _ (omega arith) v.2 e)
 
-
 pub returns : goal.returns
 returns c =
     rw (le_antisymm c.loop-i.invariant.0 c.loop-i-test.false) at c.loop-i.invariant.2
-

@@ -1,5 +1,4 @@
 -- `pick_text::row_lines::put_row` meets its contract: what it puts, one after another, is the line.
-use borrow.Author.Rules.{rules}
 use native.Mathlib.Omega.{arith}
 use Rattle.pick_text.proofs.Joins.{wider, then}
 use Rattle.pick_text.proofs.RowLinesTexts.{kept, dropped}
@@ -9,7 +8,6 @@ pub returns-then-e-i : goal.returns-then-e-i
 returns-then-e-i c =
     wider (then c.put_number-a.ensures c.put.ensures) (kept _ _ c.if-e-i.true) (omega arith)
 
-
 pub returns : goal.returns
 returns c =
     wider
@@ -18,4 +16,3 @@ returns c =
     c.put_byte.ensures)
     (dropped _ _ c.if-e-i.false)
     (omega arith)
-

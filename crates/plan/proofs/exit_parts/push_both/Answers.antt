@@ -1,6 +1,4 @@
 -- `plan::exit_parts::push_both` meets its contract.
-use borrow.Author.Rules.{rules}
-use borrow.Author.Tests.{eq-eqb, ne_eqb}
 use Rattle.plan.specs.Exits.{pushed}
 use Rattle.plan.proofs.exit_parts.push_both.Goals as goal
 
@@ -9,8 +7,6 @@ unfolding pushed
 returns-then-exits-i c =
     rw (c.if-exits-i.true, c.part_mask.ensures, c.part_mask-then-exits-i.ensures, c.own_mask.ensures)
 
-
 pub returns-else-exits-i : goal.returns-else-exits-i
 unfolding pushed
 returns-else-exits-i c = rw c.if-exits-i.false
-

@@ -1,5 +1,4 @@
 -- `plan::exit_parts::push_dual` meets its contract.
-use borrow.Author.Rules.{rules}
 use borrow.Author.Tests.{eq-eqb, ne_eqb}
 use Rattle.plan.specs.Exits.{dual_pushed}
 use Rattle.plan.proofs.exit_parts.push_dual.Goals as goal
@@ -8,8 +7,6 @@ pub returns-then-exits-i-eq0 : goal.returns-then-exits-i-eq0
 unfolding dual_pushed
 returns-then-exits-i-eq0 c = rw (eq-eqb _ _ c.if-exits-i-eq0.true, ← c.turned_mask.ensures)
 
-
 pub returns-else-exits-i-eq0 : goal.returns-else-exits-i-eq0
 unfolding dual_pushed
 returns-else-exits-i-eq0 c = rw (ne_eqb _ _ c.if-exits-i-eq0.false)
-

@@ -1,7 +1,6 @@
 -- `ranks::classes::pos_neg_ranks` meets its contract.
 use native.Mathlib.Omega.{arith}
 use lib.IntN.{pos}
-use borrow.Author.Rules.{rules}
 use Rattle.model.specs.declared.BaseTerm.TheVariants.{PosNeg}
 use Rattle.laws.specs.Runs.{values_between}
 use Rattle.ranks.specs.Rank.{RankAt}
@@ -15,12 +14,10 @@ copy_stretch-requires c =
     let p = c.requires in
     record { cells = p.3.cells; entries = omega (arith, p.2) }
 
-
 pub two_roles-requires : goal.two_roles-requires
 two_roles-requires c =
     let p = c.requires in
     (p.0, p.1, p.2, p.3.entries)
-
 
 pub returns : goal.returns
 returns c =
@@ -29,4 +26,3 @@ returns c =
     let values = values_between t a.k a.e in
     cells-stretch (RankAt t a.k a.e PosNeg) a.columns a.rows.now a.from a.m a.at _ _
     (two_roles values (pos 1) 2 (pos 2)) _ _ (pos-neg-is values) c.copy_stretch.ensures c.two_roles.ensures
-

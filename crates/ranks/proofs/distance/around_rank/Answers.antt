@@ -1,6 +1,6 @@
 -- `ranks::distance::around_rank` meets its contract.
 use mir.Facts.{to_z-of_z}
-use borrow.Author.Rules.{rules, sfits_of}
+use borrow.Author.Rules.{sfits_of}
 use Rattle.model.specs.Better.{distance}
 use Rattle.laws.specs.Distance.{distance-range}
 use Rattle.ranks.specs.Rank.{centred}
@@ -15,7 +15,6 @@ centred-requires c =
     (moved-fits (distance a.wish a.x)
     (distance-range a.wish a.x (record { bound = f.wish.sfits }) (record { bound = f.x.sfits })))
 
-
 pub returns : goal.returns
 unfolding centred
 returns c =
@@ -28,4 +27,3 @@ returns c =
       to_z-of_z f.wish,
       to_z-of_z f.x,
     )
-

@@ -1,6 +1,6 @@
 -- `ranks::distance::between_rank` meets its contract.
 use mir.Facts.{to_z-of_z}
-use borrow.Author.Rules.{rules, sfits_of}
+use borrow.Author.Rules.{sfits_of}
 use Rattle.model.specs.Bytes.{Value32}
 use Rattle.model.specs.Better.{distance_between}
 use Rattle.laws.specs.Distance.{distance_between-range}
@@ -24,7 +24,6 @@ centred-requires c =
     )
     (moved-fits (distance_between a.low a.up a.x) (distance_between-range a.low a.up a.x l u v))
 
-
 pub returns : goal.returns
 unfolding centred
 returns c =
@@ -38,4 +37,3 @@ returns c =
       to_z-of_z f.up,
       to_z-of_z f.x,
     )
-

@@ -1,14 +1,14 @@
 use mathlib.Core.Path.{◌≡◌, refl, ◌∙◌}
-use Prim.Native.Nat.{◌+◌, ◌*◌, ◌-◌, ◌≤◌}
+use Prim.Native.Nat.{◌+◌, ◌*◌}
 use native.Mathlib.Nat.{le_antisymm}
 use native.Mathlib.Omega.{arith}
 use lib.IntN.{pos}
-use lib.ListN.{length, length-set, get_or}
+use lib.ListN.{length-set, get_or}
 use mir.Syntax.{w32}
 use mir.Val.{to_z, of_z}
 use mir.Facts.{to_z-of_z}
 use borrow.Author.Rules.{rules, sfits_of}
-use Rattle.rows.specs.Stretch.{Stretch, stretch-none, stretch-more}
+use Rattle.rows.specs.Stretch.{stretch-none, stretch-more}
 use Rattle.ranks.specs.Rank.{RankAround}
 use Rattle.ranks.proofs.distances.around_stretch.Goals as goal
 
@@ -18,34 +18,26 @@ loop-j-init c =
     let is = RankAround (to_z w32 (of_z w32 a.wish)) in
     (search rules, refl, stretch-none is a.columns a.rows.now a.from a.at a.ranks.now)
 
-
 pub overflow_mul-j : goal.overflow_mul-j
 overflow_mul-j c = omega (arith, c.requires.cells c.loop-j.j c.loop-j-test.true)
-
 
 pub overflow_add-from : goal.overflow_add-from
 overflow_add-from c = omega (arith, c.requires.cells c.loop-j.j c.loop-j-test.true)
 
-
 pub offset_bounds-rows-from : goal.offset_bounds-rows-from
 offset_bounds-rows-from c = omega (arith, c.requires.cells c.loop-j.j c.loop-j-test.true)
-
 
 pub bounds-rows-from : goal.bounds-rows-from
 bounds-rows-from c = c.requires.cells c.loop-j.j c.loop-j-test.true
 
-
 pub overflow_add-at : goal.overflow_add-at
 overflow_add-at c = omega (arith, c.requires.entries)
-
 
 pub offset_bounds-ranks-at : goal.offset_bounds-ranks-at
 offset_bounds-ranks-at c = omega (arith, c.requires.entries)
 
-
 pub bounds-ranks-at : goal.bounds-ranks-at
 bounds-ranks-at c = omega (arith, c.requires.entries)
-
 
 pub loop-j-preserved : goal.loop-j-preserved
 loop-j-preserved c =
@@ -61,13 +53,10 @@ loop-j-preserved c =
           (omega (arith, c.requires.entries)) (stored ∙ rw read at c.around_rank.ensures) v.2,
     )
 
-
 pub shape_of-ranks : goal.shape_of-ranks
 shape_of-ranks c = c.loop-j.invariant.1
-
 
 pub returns : goal.returns
 returns c =
     let v = c.loop-j.invariant in
     rw (le_antisymm v.0 c.loop-j-test.false, to_z-of_z c.ranges.wish) at v.2
-

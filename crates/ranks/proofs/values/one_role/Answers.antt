@@ -2,7 +2,6 @@
 use mathlib.Core.Path.{refl}
 use lib.IntN.{ℤ}
 use mir.Facts.{to_z-of_z}
-use borrow.Author.Rules.{rules}
 use Rattle.model.specs.Better.{in_role}
 use Rattle.laws.specs.Runs.{values_between}
 use Rattle.ranks.specs.Put.{one_role}
@@ -18,4 +17,3 @@ returns c =
     put-over _ _ _ _ (in_role a.role values) (λ (x : ℤ). a.others) (one_role values a.others a.role a.class) _ _ _ (λ x. refl)
     (put_all _ _ _ _ (λ (x : ℤ). a.others) _ _ (λ x. refl) all)
     (rw (to_z-of_z c.ranges.class) at c.put_role.ensures)
-

@@ -1,14 +1,12 @@
-use mathlib.Core.Path.{◌≡◌, refl, ◌∙◌}
-use Prim.Native.Nat.{◌+◌, ◌*◌, ◌-◌, ◌≤◌}
+use mathlib.Core.Path.{refl, ◌∙◌}
+use Prim.Native.Nat.{◌+◌, ◌*◌, ◌-◌}
 use native.Mathlib.Nat.{le_antisymm}
 use native.Mathlib.Omega.{arith}
 use lib.IntN.{pos}
-use lib.ListN.{length}
 use mir.Facts.{to_z-of_z}
 use borrow.Author.Rules.{rules, sfits_of}
-use Rattle.laws.specs.Wrote.{Wrote}
 use Rattle.ranks.proofs.Ranks.{small}
-use Rattle.ranks.specs.Put.{place_lane, edge_place}
+use Rattle.ranks.specs.Put.{edge_place}
 use Rattle.ranks.proofs.Named.{places-none, places-more, places-over}
 use mir.Syntax.{w32}
 use Rattle.ranks.proofs.values.places.Goals as goal
@@ -16,12 +14,10 @@ use Rattle.ranks.proofs.values.places.Goals as goal
 pub loop-p-init : goal.loop-p-init
 loop-p-init c = (search rules, refl, places-none _ _ _ _ _ _)
 
-
 pub put_equal-requires : goal.put_equal-requires
 put_equal-requires c =
     let p = c.requires in
     (p.2, omega (arith, c.loop-p.invariant.1, p.3))
-
 
 pub loop-p-preserved : goal.loop-p-preserved
 loop-p-preserved c =
@@ -36,7 +32,6 @@ loop-p-preserved c =
       places-more t first _ _ _ p _ _ _ u (small p p (omega (arith, c.requires.0.last)) refl) v.2 c.put_equal.ensures,
     )
 
-
 pub returns : goal.returns
 unfolding edge_place
 returns c =
@@ -46,4 +41,3 @@ returns c =
     places-over a.table.now (2 * a.k + 2) _ _ _ n (pos n) _ _ _
     (rw (small n n (omega (arith, c.requires.0.last)) refl) at c.put_all.ensures)
     (rw (le_antisymm v.0 c.loop-p-test.false) at v.2)
-

@@ -1,16 +1,11 @@
 use mathlib.Core.Path.{◌≡◌, refl}
-use Prim.Native.Nat.{◌+◌, ◌-◌, ◌≤◌, ◌<◌}
+use Prim.Native.Nat.{◌+◌}
 use native.Mathlib.Omega.{arith}
-use lib.IntN.{pos}
-use lib.ListN.{length}
-use mir.Syntax.{w32}
-use mir.Val.{to_z}
 use mir.Facts.{to_z-of_z}
 use borrow.Author.Rules.{rules}
 use Rattle.model.specs.Better.{in_role}
 use Rattle.laws.specs.Runs.{values_between}
-use Rattle.laws.specs.Wrote.{Wrote}
-use Rattle.ranks.specs.Put.{put_lane, is_value}
+use Rattle.ranks.specs.Put.{is_value}
 use Rattle.ranks.specs.Made.{put-none, put-more}
 use Rattle.ranks.proofs.Named.{role-none, role-more}
 use Rattle.ranks.proofs.values.put_role.Goals as goal
@@ -24,12 +19,10 @@ loop-i-init c =
       put-none _ _ _ _ (in_role a.role (values_between a.table.now a.k (a.k + 1))) _ (role-none a.table.now a.k a.role),
     )
 
-
 pub put_value-requires : goal.put_value-requires
 put_value-requires c =
     let p = c.requires in
     (omega (arith, p.0.last), p.1, p.2, omega arith)
-
 
 pub loop-i-preserved : goal.loop-i-preserved
 loop-i-preserved c =
@@ -45,13 +38,10 @@ loop-i-preserved c =
           (role-more t a.k i a.role v.0 (c.requires.0.each i v.0 (omega arith))) v.3 c.put_value.ensures,
     )
 
-
 pub shape_of-ranks : goal.shape_of-ranks
 shape_of-ranks c = c.loop-i.invariant.2
-
 
 pub returns : goal.returns
 returns c =
     let e : c.loop-i.i ≡ c.args.e = omega arith in
     rw (e, to_z-of_z c.ranges.class) at c.loop-i.invariant.3
-

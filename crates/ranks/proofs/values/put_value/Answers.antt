@@ -3,7 +3,7 @@ use mathlib.Core.Path.{◌∙◌}
 use Prim.Native.Nat.{◌*◌}
 use native.Mathlib.Omega.{arith}
 use mir.Facts.{to_z-of_z}
-use borrow.Author.Rules.{rules, sfits_of}
+use borrow.Author.Rules.{sfits_of}
 use Rattle.ranks.specs.Put.{is_value}
 use Rattle.ranks.specs.Made.{put-none, put_same}
 use Rattle.ranks.proofs.Named.{other-role, same-role}
@@ -18,10 +18,8 @@ returns-then-p_at-role c =
     (same-role a.table.now a.i a.role c.p_at.ensures c.if-p_at-role.true u)
     (rw (to_z-of_z c.ranges.class) at c.put_equal.ensures)
 
-
 pub returns-else-p_at-role : goal.returns-else-p_at-role
 returns-else-p_at-role c =
     let a = c.args in
     put-none _ _ _ _ (is_value a.table.now a.i a.role) _
     (other-role a.table.now a.i a.role c.p_at.ensures c.if-p_at-role.false)
-

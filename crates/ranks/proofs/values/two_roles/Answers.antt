@@ -1,7 +1,6 @@
 -- `ranks::values::two_roles` meets its contract.
 use mathlib.Core.Path.{refl}
 use mir.Facts.{to_z-of_z}
-use borrow.Author.Rules.{rules}
 use Rattle.model.specs.Better.{in_role}
 use Rattle.laws.specs.Runs.{values_between}
 use Rattle.ranks.specs.Put.{one_role, two_roles}
@@ -17,4 +16,3 @@ returns c =
     (two_roles values a.others a.role a.class) _ _ _ (λ x. refl)
     (rw (to_z-of_z c.ranges.others, to_z-of_z c.ranges.class) at c.one_role.ensures)
     c.put_role.ensures
-

@@ -1,6 +1,5 @@
 -- `records::parts::parts_at` meets its contract.
 use mathlib.Core.Path.{◌∙◌, ap}
-use borrow.Author.Rules.{rules}
 use Rattle.model.specs.Record.{record_at, parts_of}
 use Rattle.records.proofs.OfKind.{parts-numbers}
 use Rattle.records.proofs.parts.parts_at.Goals as goal
@@ -10,4 +9,3 @@ unfolding record_at
 returns c =
     c.parts_of.ensures ∙ ap parts_of c.record_of.ensures
     ∙ rw (c.kind_at.ensures, c.p_at.ensures, c.q_at.ensures) (parts-numbers _ _ _ _ _ _ _)
-

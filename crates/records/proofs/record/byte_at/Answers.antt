@@ -9,8 +9,6 @@ pub returns-then-at-bytes : goal.returns-then-at-bytes
 unfolding byte_at
 returns-then-at-bytes c = search rules
 
-
 pub returns-else-at-bytes : goal.returns-else-at-bytes
 unfolding byte_at
 returns-else-at-bytes c = sym (get_or-eq_default c.args.bytes.now 0 c.if-at-bytes.false)
-

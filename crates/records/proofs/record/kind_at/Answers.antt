@@ -1,9 +1,7 @@
 -- `records::record::kind_at` meets its contract.
-use borrow.Author.Rules.{rules}
 use Rattle.model.specs.Record.{kind_at}
 use Rattle.records.proofs.record.kind_at.Goals as goal
 
 pub returns : goal.returns
 unfolding kind_at
 returns c = c.byte_at.ensures
-

@@ -1,9 +1,7 @@
 -- `records::record::s_at` meets its contract.
-use borrow.Author.Rules.{rules}
 use Rattle.model.specs.Record.{s_at}
 use Rattle.records.proofs.record.s_at.Goals as goal
 
 pub returns : goal.returns
 unfolding s_at
 returns c = c.byte_at.ensures
-

@@ -6,4 +6,3 @@ use Rattle.records.proofs.record.word_at.Goals as goal
 pub returns : goal.returns
 unfolding word_at
 returns c = search rules
-

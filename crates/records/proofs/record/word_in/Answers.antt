@@ -6,4 +6,3 @@ use Rattle.records.proofs.record.word_in.Goals as goal
 pub returns : goal.returns
 unfolding word_at byte_at
 returns c = search rules
-

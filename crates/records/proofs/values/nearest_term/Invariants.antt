@@ -1,16 +1,11 @@
 -- `records::values::nearest_term` meets its contract. No record from `i` on up to `k` is a term.
-use mathlib.Core.Path.{◌≡◌, refl, sym, ◌∙◌, ap}
-use Prim.Native.Nat.{◌-◌, ◌≤◌}
-use native.Mathlib.Omega.{arith}
-use borrow.Author.Rules.{rules}
+use mathlib.Core.Path.{◌≡◌}
+use Prim.Native.Nat.{◌≤◌}
 use Rattle.model.specs.Record.{nearest_term}
-use Rattle.records.proofs.Nearest.{nearest-stop, nearest-skip}
 use Rattle.records.proofs.values.nearest_term.Given as goal
 
 abbrev pub invariant-loop-i : goal.invariant-loop-i
 invariant-loop-i l = (l.i ≤ l.k) × (nearest_term l.table l.k ≡ nearest_term l.table l.i)
 
-
 abbrev pub decreases-loop-i : goal.decreases-loop-i
 decreases-loop-i l = l.i
-

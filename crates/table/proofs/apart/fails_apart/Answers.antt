@@ -2,7 +2,6 @@
 use mathlib.Core.Path.{◌≡◌, ◌∙◌, sym}
 use native.Mathlib.Omega.{arith}
 use borrow.Author.Tests.{ne_eqb}
-use borrow.Author.Rules.{rules}
 use Rattle.model.specs.Record.{kind_at, p_at, q_at}
 use Rattle.table.proofs.ApartLaws.{narrow, both_below, apart-is, apart_none}
 use Rattle.table.proofs.apart.fails_apart.Goals as goal
@@ -12,11 +11,9 @@ returns-then-kind_at-ne18 c =
     let a = c.args in
     sym (apart_none a.table.now a.k (rw (← c.kind_at.ensures) (ne_eqb _ _ c.if-kind_at-ne18.true)))
 
-
 pub masks-a-requires : goal.masks-a-requires
 masks-a-requires c =
     narrow c.args.table.now c.args.columns c.args.k c.requires
-
 
 pub returns : goal.returns
 returns c =
@@ -29,4 +26,3 @@ returns c =
       c.masks-a.ensures (p_at t c.args.k) (omega (arith, h.0, c.requires.reached.few)),
       c.masks-a.ensures (q_at t c.args.k) (omega (arith, h.1, c.requires.reached.few)),
     ) (apart-is t c.args.columns c.args.k c.requires e)
-

@@ -2,7 +2,6 @@
 use Prim.Native.Nat.{◌-◌, ◌+◌, ◌≤◌}
 use native.Mathlib.Omega.{arith}
 use borrow.Author.Tests.{le-leb, lt-leb}
-use borrow.Author.Rules.{rules}
 use Rattle.model.specs.Record.{nearest_term}
 use Rattle.model.specs.Replies.{refusals, numbered, refusal}
 use Rattle.laws.specs.Runs.{nearest-bound}
@@ -15,14 +14,12 @@ overflow_sub-k c =
     let h = nearest-bound c.args.table.now c.args.k in
     omega (arith, c.requires.1, h)
 
-
 pub returns-then-k-near-gt-MOST_VALUES : goal.returns-then-k-near-gt-MOST_VALUES
 unfolding judge_run refusal numbered refusals
 returns-then-k-near-gt-MOST_VALUES c =
     let t = c.args.table.now in
     let e = c.requires.1 in
     rw (crowd-is t c.args.columns c.args.k c.requires.0, le-leb 16 (c.args.k - nearest_term t c.args.k - 1) (omega (arith, e, c.if-k-near-gt-MOST_VALUES.true)))
-
 
 pub fails_loop-requires : goal.fails_loop-requires
 fails_loop-requires c =
@@ -31,14 +28,12 @@ fails_loop-requires c =
     let h : c.args.k ≤ nearest_term t c.args.k + 16 = omega (arith, e, c.if-k-near-gt-MOST_VALUES.false) in
     rw e (values t c.args.columns c.args.k c.requires.0 h, h, c.requires.0.fielded.reached.few)
 
-
 pub fails_clash-requires : goal.fails_clash-requires
 fails_clash-requires c =
     let t = c.args.table.now in
     let e = c.requires.1 in
     let h : c.args.k ≤ nearest_term t c.args.k + 16 = omega (arith, e, c.if-k-near-gt-MOST_VALUES.false) in
     rw e (values t c.args.columns c.args.k c.requires.0 h)
-
 
 pub returns : goal.returns
 unfolding judge_run refusal numbered refusals
@@ -57,4 +52,3 @@ returns c =
       c.fails_loop.ensures,
       e,
     )
-

@@ -4,8 +4,7 @@ use mathlib.Core.Bool.{true, false, not}
 use lib.Dec.{eqb}
 use lib.IntN.{pos}
 use lib.ListN.{get_or}
-use borrow.Author.Rules.{sfits_of, rules}
-use borrow.Author.Tests.{not-true, not-false}
+use borrow.Author.Rules.{sfits_of}
 use Rattle.model.specs.Bytes.{eq_z}
 use Rattle.model.specs.Record.{kind_at, p_at, q_at, s_at, u_at, v_at, record_at, record_of}
 use Rattle.model.specs.Check.{fails_filler}
@@ -24,11 +23,9 @@ returns-then-not-in_list c =
     sym (sym (filler-fields (record_at t k) (not (eqb (q_at t k) 0)) (not (eqb (s_at t k) 0)) (not (eq_z (u_at t k) (pos 0))) (not (eq_z (v_at t k) (pos 0))))
     ∙ rw (zero-unknown (kind_at t k) (p_at t k) (q_at t k) (u_at t k) (v_at t k) out))
 
-
 pub row_of-row-requires : goal.row_of-row-requires
 row_of-row-requires c =
     rw (← c.in_list.ensures) c.if-not-in_list.false
-
 
 pub returns : goal.returns
 unfolding fails_filler record_at
@@ -46,4 +43,3 @@ returns c =
     ∙ rw (c.kind_at-kind.ensures, c.p_at.ensures) (zero-rows (kind_at t k) (p_at t k) (q_at t k) (u_at t k) (v_at t k) is) in
     rw (c.has.ensures, c.has-2.ensures, c.has-3.ensures, c.has-4.ensures, zero, is_zero (sfits_of u.type_inv), is_zero (sfits_of v.type_inv), q.ensures, s.ensures, u.ensures, v.ensures)
     (filler-fields (record_at t k) (not (eqb (q_at t k) 0)) (not (eqb (s_at t k) 0)) (not (eq_z (u_at t k) (pos 0))) (not (eq_z (v_at t k) (pos 0))))
-

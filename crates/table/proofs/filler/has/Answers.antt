@@ -1,10 +1,8 @@
 -- `table::filler::has` meets its contract.
 use mathlib.Core.Path.{refl}
-use borrow.Author.Rules.{rules}
 use Rattle.table.specs.Filler.{has_field}
 use Rattle.table.proofs.filler.has.Goals as goal
 
 pub returns : goal.returns
 unfolding has_field
 returns c = refl
-

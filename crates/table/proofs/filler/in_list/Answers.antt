@@ -6,4 +6,3 @@ use Rattle.table.proofs.filler.in_list.Goals as goal
 pub returns : goal.returns
 unfolding in_list
 returns c = refl
-

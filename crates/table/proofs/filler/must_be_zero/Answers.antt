@@ -7,4 +7,3 @@ use Rattle.table.proofs.filler.must_be_zero.Goals as goal
 pub returns : goal.returns
 unfolding record_of
 returns c = λ row h. rule-at zero_row 16 row 0 h
-

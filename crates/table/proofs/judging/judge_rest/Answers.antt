@@ -3,7 +3,6 @@ use mathlib.Core.Path.{◌≡◌, ◌∙◌, sym, ap}
 use mathlib.Core.Bool.{false}
 use lib.Dec.{eqb}
 use borrow.Author.Tests.{ne_eqb}
-use borrow.Author.Rules.{rules}
 use Rattle.model.specs.declared.Verdict.{Verdict}
 use Rattle.model.specs.Record.{kind_at}
 use Rattle.model.specs.Replies.{refusals, numbered, refusal}
@@ -15,14 +14,12 @@ pub judge_run-requires : goal.judge_run-requires
 judge_run-requires c =
     (record { fielded = c.requires.0; kind = sym c.kind_at-kind.ensures ∙ c.if-kind-eq0.true }, c.requires.1)
 
-
 pub returns-then-kind-eq0 : goal.returns-then-kind-eq0
 returns-then-kind-eq0 c =
     let a = c.args in
     let e : kind_at a.table.now a.k ≡ 0 = sym c.kind_at-kind.ensures ∙ c.if-kind-eq0.true in
     c.judge_run.ensures
     ∙ ap (λ (v : Verdict). judge_run a.table.now a.k v) (sym (shape-none a.table.now a.k (rw e) (rw e)))
-
 
 pub returns-then-kind-eq4 : goal.returns-then-kind-eq4
 unfolding refusal numbered refusals
@@ -32,10 +29,8 @@ returns-then-kind-eq4 c =
     let e : kind_at t a.k ≡ 4 = sym c.kind_at-kind.ensures ∙ c.if-kind-eq4.true in
     rw (c.refuse_or.ensures, c.fails_bounds.ensures, run_none t a.k (judge_shape t a.k) (rw e), shape-bounds t a.k (rw e))
 
-
 pub fails_apart-apart-requires : goal.fails_apart-apart-requires
 fails_apart-apart-requires c = c.requires.0
-
 
 pub returns-then-kind-eq18 : goal.returns-then-kind-eq18
 unfolding refusal numbered refusals
@@ -45,7 +40,6 @@ returns-then-kind-eq18 c =
     let e : kind_at t a.k ≡ 18 = sym c.kind_at-kind.ensures ∙ c.if-kind-eq18.true in
     rw (c.refuse_or-then-kind-eq18.ensures, c.fails_apart-apart.ensures, run_none t a.k (judge_shape t a.k) (rw e), shape-apart t a.k (rw e))
 
-
 pub returns : goal.returns
 returns c =
     let a = c.args in
@@ -54,4 +48,3 @@ returns c =
     let four : eqb (kind_at t a.k) 4 ≡ false = rw (← c.kind_at-kind.ensures) (ne_eqb _ _ c.if-kind-eq4.false) in
     let both : eqb (kind_at t a.k) 18 ≡ false = rw (← c.kind_at-kind.ensures) (ne_eqb _ _ c.if-kind-eq18.false) in
     sym (run_none t a.k _ off ∙ shape-none t a.k four both)
-

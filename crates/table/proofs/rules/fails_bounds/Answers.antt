@@ -1,5 +1,4 @@
 -- `table::rules::fails_bounds` meets its contract.
-use borrow.Author.Rules.{rules}
 use Rattle.model.specs.Check.{fails_bounds}
 use Rattle.records.proofs.Signed.{returned}
 use Rattle.table.proofs.rules.fails_bounds.Goals as goal
@@ -10,4 +9,3 @@ returns c =
     let u = c.u_at in
     let v = c.v_at in
     rw (c.kind_at.ensures, returned u.result u.type_inv u.ensures, returned v.result v.type_inv v.ensures)
-

@@ -6,4 +6,3 @@ use Rattle.table.proofs.rules.fails_length.Goals as goal
 pub returns : goal.returns
 unfolding fails_length
 returns c = refl
-

@@ -18,4 +18,3 @@ returns c =
     let test : ℕ → Bool = λ part. not (ltb part c.args.k && is_term (record_at c.args.table.now part)) in
     rw (c.requires p.left (search rules), c.requires p.right (search rules))
     (any-parts p.count p.left p.right test ∙ ap (λ (l : List ℕ). any_in l test) c.parts_at-s.ensures)
-

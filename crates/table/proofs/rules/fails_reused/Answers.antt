@@ -16,4 +16,3 @@ returns c =
     let test = is_part c.args.table.now c.args.k in
     rw (c.requires p.left (search rules), c.requires p.right (search rules))
     (reused-parts p.count p.left p.right test ∙ ap (λ (l : List ℕ). any_in l test || twice l) c.parts_at-s.ensures)
-

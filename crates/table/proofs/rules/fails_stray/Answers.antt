@@ -2,7 +2,6 @@
 use mathlib.Core.Path.{◌≡◌, ◌∙◌, ap}
 use mathlib.Core.Bool.{true, false, not}
 use lib.Dec.{eqb}
-use borrow.Author.Rules.{rules}
 use borrow.Author.Tests.{ne_eqb, eq-eqb}
 use Rattle.model.specs.declared.Value.{Value}
 use Rattle.model.specs.Search.{any_in}
@@ -19,7 +18,6 @@ returns-then-kind_at-ne0 c =
     let off : eqb (kind_at a.table.now a.k) 0 ≡ false = rw (← c.kind_at.ensures) (ne_eqb _ _ c.if-kind_at-ne0.true) in
     rw off at (any_value a.table.now a.k (λ (x : Value). not (any_in (roles_of (owner_at a.table.now a.k)) (eqb x.role))))
 
-
 pub returns : goal.returns
 unfolding fails_stray owner_at record_at
 returns c =
@@ -31,4 +29,3 @@ returns c =
     ∙ rw (c.kind_at-2.ensures, c.requires) (roles-shape (kind_at t near) (p_at t near) (q_at t near) (u_at t near) (v_at t near)) in
     rw (c.takes_role.ensures, c.p_at.ensures, roles)
     (rw on at (any_value t c.args.k (λ (x : Value). not (any_in (roles_of (record_at t near)) (eqb x.role)))))
-

@@ -6,4 +6,3 @@ use Rattle.table.proofs.rules.fails_width.Goals as goal
 pub returns : goal.returns
 unfolding fails_width
 returns c = refl
-

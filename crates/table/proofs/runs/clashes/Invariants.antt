@@ -1,12 +1,9 @@
 -- `table::runs::clashes` meets its contract. What was found among the values between records `j` and `i`.
-use mathlib.Core.Path.{◌≡◌, sym}
-use Prim.Native.Nat.{◌+◌, ◌-◌, ◌≤◌, ◌<◌}
-use native.Mathlib.Omega.{arith}
-use native.Mathlib.Numerals.{add-one}
-use borrow.Author.Rules.{rules}
+use mathlib.Core.Path.{◌≡◌}
+use Prim.Native.Nat.{◌-◌, ◌≤◌, ◌<◌}
 use Rattle.model.specs.Search.{any_in}
 use Rattle.model.specs.Check.{clash}
-use Rattle.laws.specs.Runs.{values_between, between_none, between_more}
+use Rattle.laws.specs.Runs.{values_between}
 use Rattle.records.specs.Fields.{value_at}
 use Rattle.table.proofs.runs.clashes.Given as goal
 
@@ -14,7 +11,5 @@ abbrev pub invariant-loop-i : goal.invariant-loop-i
 invariant-loop-i l =
     (l.j < l.i) × (l.i ≤ l.k) × (l.found ≡ any_in (values_between l.table l.j l.i) (clash (value_at l.table l.k)))
 
-
 abbrev pub decreases-loop-i : goal.decreases-loop-i
 decreases-loop-i l = l.k - l.i
-

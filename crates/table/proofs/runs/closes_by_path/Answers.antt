@@ -1,7 +1,6 @@
 -- `table::runs::closes_by_path` meets its contract.
 use Prim.Native.Nat.{◌+◌, ◌*◌, ◌-◌, ◌<◌}
 use native.Mathlib.Omega.{arith}
-use borrow.Author.Rules.{rules}
 use Rattle.model.specs.Bytes.{byte_at}
 use Rattle.model.specs.Record.{u_at, v_at}
 use Rattle.model.specs.Check.{closes_cycle}
@@ -32,4 +31,3 @@ returns c =
       end-u t a.j a.k l,
       end-v t a.j a.k l,
     )
-

@@ -3,7 +3,6 @@ use mathlib.Core.Path.{sym, ◌∙◌}
 use mathlib.Core.Bool.{or-false}
 use Prim.Native.Nat.{◌+◌, ◌*◌}
 use native.Mathlib.Omega.{arith}
-use borrow.Author.Rules.{rules}
 use Rattle.model.specs.Bytes.{byte_at}
 use Rattle.model.specs.Record.{u_at, v_at}
 use Rattle.model.specs.Check.{closes_cycle}
@@ -27,4 +26,3 @@ returns c =
       ← (eq-signed (u_word t a.k) (v_word t a.k) (word_small t bytes (12 * a.k + 4)) (word_small t bytes (12 * a.k + 8))),
       none,
     ) (sym (or-false _))
-

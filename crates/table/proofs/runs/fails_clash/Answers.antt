@@ -1,5 +1,4 @@
 -- `table::runs::fails_clash` meets its contract.
-use borrow.Author.Rules.{rules}
 use Rattle.table.specs.Rules.{clash_in}
 use Rattle.table.proofs.runs.fails_clash.Goals as goal
 
@@ -8,8 +7,6 @@ unfolding clash_in
 returns-then-kind c =
     rw (← c.kind_at-kind.ensures, c.if-kind.true) c.clashes.ensures
 
-
 pub returns : goal.returns
 unfolding clash_in
 returns c = rw (← c.kind_at-kind.ensures, c.if-kind.false)
-

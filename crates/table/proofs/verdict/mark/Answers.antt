@@ -1,5 +1,4 @@
 -- `table::verdict::mark` meets its contract.
-use borrow.Author.Rules.{rules}
 use Rattle.table.specs.Carried.{marked}
 use Rattle.table.proofs.verdict.mark.Goals as goal
 
@@ -7,8 +6,6 @@ pub returns-then-there : goal.returns-then-there
 unfolding marked
 returns-then-there c = rw c.if-there.true
 
-
 pub returns-else-there : goal.returns-else-there
 unfolding marked
 returns-else-there c = rw c.if-there.false
-

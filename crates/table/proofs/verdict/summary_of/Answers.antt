@@ -2,7 +2,6 @@
 use mathlib.Core.Path.{◌≡◌, ◌∙◌}
 use native.Mathlib.Omega.{arith}
 use lib.ListN.{get_or}
-use borrow.Author.Rules.{rules}
 use Rattle.model.specs.Term.{term_at, columns_of}
 use Rattle.model.specs.Record.{record_count}
 use Rattle.model.specs.Check.{summary, top_of}
@@ -13,11 +12,9 @@ pub overflow_cast-records : goal.overflow_cast-records
 unfolding record_count
 overflow_cast-records c = omega (arith, c.requires.few)
 
-
 pub masks-a-requires : goal.masks-a-requires
 unfolding record_count
 masks-a-requires c = c.requires.narrow
-
 
 pub returns : goal.returns
 unfolding summary record_count top_of
@@ -27,4 +24,3 @@ returns c =
     let e : get_or c.masks-a.result (top_of t) 0 ≡ columns_of (term_at t (top_of t)) =
     c.masks-a.ensures (top_of t) (omega (arith, c.requires.top, c.requires.few)) ∙ top_mask t c.requires.top in
     rw (c.count_columns-count.ensures, n.ensures.0, e)
-

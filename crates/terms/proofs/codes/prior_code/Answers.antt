@@ -7,8 +7,6 @@ pub returns-then-a-eq0 : goal.returns-then-a-eq0
 unfolding prior_code
 returns-then-a-eq0 c = rw (eq-eqb _ _ c.if-a-eq0.true)
 
-
 pub returns : goal.returns
 unfolding prior_code
 returns c = rw (ne_eqb _ _ c.if-a-eq0.false)
-

@@ -1,7 +1,7 @@
 -- `terms::distances::at_the_wish` meets its contract.
 use mathlib.Core.Path.{◌∙◌}
 use mir.Facts.{to_z-of_z}
-use borrow.Author.Rules.{sfits_of, rules}
+use borrow.Author.Rules.{sfits_of}
 use Rattle.model.specs.Better.{distance}
 use mir.Syntax.{w64}
 use Rattle.terms.proofs.distances.at_the_wish.Goals as goal
@@ -9,4 +9,3 @@ use Rattle.terms.proofs.distances.at_the_wish.Goals as goal
 pub returns : goal.returns
 unfolding distance
 returns c = to_z-of_z {w = w64} (sfits_of c.distance.type_inv) ∙ c.distance.ensures
-

@@ -1,5 +1,4 @@
 -- `blocks::vetted::live::free_alive` meets its contract.
-use borrow.Author.Rules.{rules}
 use Rattle.blocks.proofs.Grouping.{lit-free, alive, free_off}
 use Rattle.blocks.proofs.vetted.live.free_alive.Goals as goal
 
@@ -10,4 +9,3 @@ returns c =
     (lit-free _ _ _ _ c.free_lanes.ensures)
     (free_off _ _ _ p.2 p.0.few p.5)
     c.group_lanes.ensures
-

@@ -1,5 +1,4 @@
 -- `blocks::vetted::live::waiting` meets its contract.
-use borrow.Author.Rules.{rules}
 use Rattle.blocks.proofs.Grouping.{lit-pending, alive, pending-off}
 use Rattle.blocks.proofs.vetted.live.waiting.Goals as goal
 
@@ -10,4 +9,3 @@ returns c =
     (lit-pending _ _ _ _ _ c.pending_lanes.ensures)
     (pending-off _ _ _ _ p.2 p.0.few p.6)
     c.group_lanes.ensures
-

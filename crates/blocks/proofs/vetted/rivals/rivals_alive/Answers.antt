@@ -6,4 +6,3 @@ use Rattle.blocks.proofs.vetted.rivals.rivals_alive.Goals as goal
 pub returns : goal.returns
 returns c =
     rivals-alive _ _ _ _ _ _ _ _ _ (search rules) c.free_alive.ensures c.leave_out.ensures
-

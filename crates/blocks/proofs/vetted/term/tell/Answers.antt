@@ -1,13 +1,11 @@
 -- `blocks::vetted::term::tell` meets its contract.
 use mathlib.Core.Path.{refl}
 use mathlib.Core.Bool.{false≢true}
-use borrow.Author.Rules.{rules}
 use Rattle.blocks.proofs.vetted.term.tell.Goals as goal
 
 pub returns-then-m-eq0 : goal.returns-then-m-eq0
 returns-then-m-eq0 c =
     record { silent = λ z. refl; told = λ n. absurd (n c.if-m-eq0.true); ended = λ h. absurd (false≢true h) }
-
 
 pub returns-then-pays : goal.returns-then-pays
 returns-then-pays c =
@@ -17,7 +15,6 @@ returns-then-pays c =
       ended = c.all_known.ensures;
     }
 
-
 pub returns : goal.returns
 returns c =
     record {
@@ -25,4 +22,3 @@ returns c =
       told = λ n. c.tell_lanes.ensures;
       ended = λ h. absurd (false≢true h);
     }
-

@@ -6,13 +6,10 @@ pub returns-then-first : goal.returns-then-first
 unfolding tests_code
 returns-then-first c = rw c.if-first.true
 
-
 pub returns-then-second : goal.returns-then-second
 unfolding tests_code
 returns-then-second c = rw (c.if-first.false, c.if-second.true)
 
-
 pub returns : goal.returns
 unfolding tests_code
 returns c = rw (c.if-first.false, c.if-second.false)
-

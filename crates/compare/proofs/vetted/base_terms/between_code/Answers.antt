@@ -1,6 +1,6 @@
 -- `compare::vetted::base_terms::between_code` meets its contract.
 use mir.Facts.{to_z-of_z}
-use borrow.Author.Rules.{sfits_of, rules}
+use borrow.Author.Rules.{sfits_of}
 use Rattle.laws.specs.ValueCodes.{rank_code}
 use Rattle.compare.proofs.vetted.base_terms.between_code.Goals as goal
 
@@ -19,4 +19,3 @@ returns c =
       to_z-of_z f.x,
       to_z-of_z f.y,
     )
-

@@ -1,6 +1,5 @@
 -- `compare::vetted::base_terms::neg_code` meets its contract.
 use mir.Facts.{to_z-of_z}
-use borrow.Author.Rules.{rules}
 use Rattle.model.specs.declared.BaseTerm.TheVariants.{Neg}
 use Rattle.laws.specs.Runs.{values_between}
 use Rattle.laws.specs.Ranks.{rank_neg, neg-rank}
@@ -14,4 +13,3 @@ returns c =
     let values = values_between a.table.now a.k a.e in
     rw (c.by_class.ensures, c.class_neg.ensures, c.class_neg-2.ensures, to_z-of_z f.x, to_z-of_z f.y)
     (by_rank Neg values (rank_neg values) (neg-rank values) a.x a.y)
-

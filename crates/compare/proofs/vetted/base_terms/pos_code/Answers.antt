@@ -1,6 +1,5 @@
 -- `compare::vetted::base_terms::pos_code` meets its contract.
 use mir.Facts.{to_z-of_z}
-use borrow.Author.Rules.{rules}
 use Rattle.model.specs.declared.BaseTerm.TheVariants.{Pos}
 use Rattle.laws.specs.Runs.{values_between}
 use Rattle.laws.specs.Ranks.{rank_pos, pos-rank}
@@ -14,4 +13,3 @@ returns c =
     let values = values_between a.table.now a.k a.e in
     rw (c.by_class.ensures, c.class_pos.ensures, c.class_pos-2.ensures, to_z-of_z f.x, to_z-of_z f.y)
     (by_rank Pos values (rank_pos values) (pos-rank values) a.x a.y)
-

@@ -1,6 +1,5 @@
 -- `compare::vetted::base_terms::pos_neg_code` meets its contract.
 use mir.Facts.{to_z-of_z}
-use borrow.Author.Rules.{rules}
 use Rattle.model.specs.declared.BaseTerm.TheVariants.{PosNeg}
 use Rattle.laws.specs.Runs.{values_between}
 use Rattle.laws.specs.Ranks.{rank_pos_neg, pos-neg-class}
@@ -14,4 +13,3 @@ returns c =
     let values = values_between a.table.now a.k a.e in
     rw (c.by_class.ensures, c.class_pos_neg.ensures, c.class_pos_neg-2.ensures, to_z-of_z f.x, to_z-of_z f.y)
     (by_rank PosNeg values (rank_pos_neg values) (pos-neg-class values c.requires.2) a.x a.y)
-

@@ -1,10 +1,7 @@
 use mathlib.Core.Path.{◌≡◌}
-use mathlib.Core.Logic.{⊎_elim}
-use Prim.Native.Nat.{◌-◌, ◌≤◌}
 use native.Mathlib.Omega.{arith}
 use Rattle.rows.specs.Places.{row_in}
 use Rattle.demands.specs.Leaving.{marked}
-use Rattle.demands.specs.Gathered.{Buffers, Gathered}
 use Rattle.demands.proofs.Gathering.{gathered_none, gathered-more, gathered-same, gathered-few}
 use Rattle.demands.proofs.agreement.left.gather.Goals as goal
 use Rattle.demands.proofs.agreement.left.gather.Goals.{then-stay-k, else-stay-k}
@@ -17,10 +14,8 @@ loop-k-init c =
       c.requires.1,
     )
 
-
 pub bounds-stay-k : goal.bounds-stay-k
 bounds-stay-k c = omega arith
-
 
 pub put_row-requires : goal.put_row-requires
 put_row-requires c =
@@ -36,7 +31,6 @@ put_row-requires c =
       v.2,
     )
 
-
 pub overflow_add-m : goal.overflow_add-m
 overflow_add-m c =
     let a = c.args in
@@ -44,14 +38,11 @@ overflow_add-m c =
     c.loop-k.invariant.1 in
     omega (arith, w, c.requires.0.most)
 
-
 pub overflow_add-k : goal.overflow_add-k
 overflow_add-k c = omega arith
 
-
 pub loop-k-smaller : goal.loop-k-smaller
 loop-k-smaller c = omega arith
-
 
 pub loop-k-preserved : goal.loop-k-preserved
 unfolding marked
@@ -60,7 +51,7 @@ loop-k-preserved c =
     let v = c.loop-k.invariant in
     let stays = marked a.stay.now in
     elim c.if-stay-k.branch [
-      then-stay-k w ↦ (
+      | then-stay-k w ↦ (
         omega arith,
         rw (w.left-is, w.old-is, w.m-is)
             (gathered-more a.columns a.rows.now stays c.loop-k.k c.loop-k.m c.loop-k.left c.loop-k.old
@@ -76,10 +67,8 @@ loop-k-preserved c =
       )
     ]
 
-
 pub returns : goal.returns
 returns c =
     let v = c.loop-k.invariant in
     let e : c.loop-k.k ≡ c.args.n = omega arith in
     (rw e at v.1, v.2)
-

@@ -4,7 +4,6 @@ use Prim.Native.Nat.{ℕ}
 use native.Mathlib.Omega.{arith}
 use lib.ListN.{length-replicate}
 use lib.IntN.{pos}
-use borrow.Author.Rules.{rules}
 use Rattle.model.specs.Query.{row_count}
 use Rattle.demands.specs.Leaving.{marked}
 use Rattle.demands.proofs.Again.{cells-length, cells-few, numbers-within, twice}
@@ -18,7 +17,6 @@ gather-m-requires c =
       record { cells = length-replicate 8192 (pos 0); numbers = length-replicate {A = ℕ} 1024 0 },
     )
 
-
 pub overflow_mul-cells : goal.overflow_mul-cells
 unfolding row_count
 overflow_mul-cells c =
@@ -28,7 +26,6 @@ overflow_mul-cells c =
       cells-few a.columns a.rows.now (marked a.stay.now) c.gather-m.result _ _ _ c.requires
           c.gather-m.ensures.0,
     )
-
 
 pub slice_bounds-left-end : goal.slice_bounds-left-end
 unfolding row_count
@@ -41,14 +38,12 @@ slice_bounds-left-end c =
           c.gather-m.ensures.0,
     )
 
-
 pub slice_bounds-query_direct-end : goal.slice_bounds-query_direct-end
 unfolding row_count
 slice_bounds-query_direct-end c =
     let a = c.args in
     sym (cells-length a.columns a.rows.now (marked a.stay.now) c.gather-m.result _ _ _ c.requires
     c.gather-m.ensures.0)
-
 
 pub same_answers-one-requires : goal.same_answers-one-requires
 unfolding row_count
@@ -57,7 +52,6 @@ same_answers-one-requires c =
     numbers-within a.columns a.rows.now (marked a.stay.now) c.gather-m.result _ _ _ c.requires
     c.gather-m.ensures.0 a.table.now a.term a.group a.again.now _ c.query_direct-direct.result
     c.query_direct-direct.ensures.0 c.query_direct-direct.ensures.1
-
 
 pub slice_bounds-left-end-2 : goal.slice_bounds-left-end-2
 unfolding row_count
@@ -70,14 +64,12 @@ slice_bounds-left-end-2 c =
           c.gather-m.ensures.0,
     )
 
-
 pub slice_bounds-query_by_parts-end : goal.slice_bounds-query_by_parts-end
 unfolding row_count
 slice_bounds-query_by_parts-end c =
     let a = c.args in
     sym (cells-length a.columns a.rows.now (marked a.stay.now) c.gather-m.result _ _ _ c.requires
     c.gather-m.ensures.0)
-
 
 pub same_answers-requires : goal.same_answers-requires
 unfolding row_count
@@ -86,7 +78,6 @@ same_answers-requires c =
     numbers-within a.columns a.rows.now (marked a.stay.now) c.gather-m.result _ _ _ c.requires
     c.gather-m.ensures.0 a.table.now a.term a.group c.query_direct-direct.new.answers _
     c.query_by_parts-parts.result c.query_by_parts-parts.ensures.0 c.query_by_parts-parts.ensures.1
-
 
 pub returns : goal.returns
 unfolding row_count
@@ -98,4 +89,3 @@ returns c =
     c.query_direct-direct.ensures.0 c.query_direct-direct.ensures.1 c.query_by_parts-parts.ensures.0
     c.query_by_parts-parts.ensures.1 a.total c.same_answers-one.result c.same_answers.result
     c.same_answers-one.ensures c.same_answers.ensures
-

@@ -3,7 +3,6 @@ use mathlib.Core.Path.{sym}
 use Prim.Native.Nat.{◌*◌}
 use native.Mathlib.Omega.{arith}
 use lib.Seq.{length-take-le}
-use borrow.Author.Rules.{rules}
 use Rattle.demands.proofs.Marked.{cut_in, cut_small, marks-apart}
 use Rattle.demands.proofs.agreement.stays.mark_apart.Goals as goal
 
@@ -12,31 +11,26 @@ overflow_mul-cut c =
     let a = c.args in
     omega (arith, cut_small a.columns a.rows.now a.n a.first c.requires.0 c.requires.1)
 
-
 pub slice_bounds-query_direct-end : goal.slice_bounds-query_direct-end
 slice_bounds-query_direct-end c =
     let a = c.args in
     sym (length-take-le (a.first * a.columns) a.rows.now
     (cut_in a.columns a.rows.now a.n a.first c.requires.0 c.requires.1))
 
-
 pub offset_bounds-rows-cut : goal.offset_bounds-rows-cut
 offset_bounds-rows-cut c =
     let a = c.args in
     omega (arith, cut_small a.columns a.rows.now a.n a.first c.requires.0 c.requires.1)
-
 
 pub slice_bounds-query_by_parts-count : goal.slice_bounds-query_by_parts-count
 slice_bounds-query_by_parts-count c =
     let a = c.args in
     cut_in a.columns a.rows.now a.n a.first c.requires.0 c.requires.1
 
-
 pub slice_bounds-query_by_parts-start : goal.slice_bounds-query_by_parts-start
 slice_bounds-query_by_parts-start c =
     let a = c.args in
     cut_in a.columns a.rows.now a.n a.first c.requires.0 c.requires.1
-
 
 pub returns : goal.returns
 returns c =
@@ -45,4 +39,3 @@ returns c =
     c.query_direct-direct.new.answers c.query_by_parts-parts.new.answers a.stay.now _ _
     c.query_direct-direct.ensures.1 c.mark_kept.ensures.0 c.query_by_parts-parts.ensures.1
     c.mark_kept-2.ensures.0
-

@@ -2,12 +2,8 @@
 use mathlib.Core.Path.{◌≡◌}
 use mathlib.Core.Bool.{false}
 use Prim.Native.Nat.{◌-◌, ◌≤◌}
-use native.Mathlib.Nat.{le_antisymm}
-use native.Mathlib.Omega.{arith}
-use lib.ListN.{length, length-set}
-use borrow.Author.Rules.{rules}
+use lib.ListN.{length}
 use Rattle.laws.specs.Wrote.{Wrote}
-use Rattle.laws.specs.Writes.{wrote_none, wrote-store}
 use Rattle.demands.specs.Leaving.{holds_own}
 use Rattle.demands.proofs.agreement.stays.mark_kept.Given as goal
 
@@ -15,7 +11,5 @@ abbrev pub invariant-loop-i : goal.invariant-loop-i
 invariant-loop-i l =
     (l.i ≤ l.count) × (length l.stay ≡ 1024) × Wrote false (holds_own l.entries) l.from l.i l.initial.stay l.stay
 
-
 abbrev pub decreases-loop-i : goal.decreases-loop-i
 decreases-loop-i l = l.count - l.i
-

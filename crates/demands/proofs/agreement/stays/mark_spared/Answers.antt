@@ -1,11 +1,8 @@
-use mathlib.Core.Path.{◌≡◌}
 use mathlib.Core.Bool.{false, not-not}
-use Prim.Native.Nat.{◌-◌, ◌≤◌}
 use native.Mathlib.Nat.{le_antisymm}
 use native.Mathlib.Omega.{arith}
-use lib.ListN.{length, length-set}
+use lib.ListN.{length-set}
 use borrow.Author.Rules.{rules}
-use Rattle.laws.specs.Wrote.{Wrote}
 use Rattle.laws.specs.Writes.{wrote_none, wrote-head}
 use Rattle.demands.specs.Leaving.{holds_own, spared}
 use Rattle.demands.proofs.agreement.stays.mark_spared.Goals as goal
@@ -18,22 +15,17 @@ loop-i-init c =
       wrote_none false (spared (holds_own a.entries.now) a.out.now) 0 a.stay.now,
     )
 
-
 pub holds_own-requires : goal.holds_own-requires
 holds_own-requires c = omega arith
-
 
 pub bounds-stay-i : goal.bounds-stay-i
 bounds-stay-i c = omega arith
 
-
 pub overflow_add-i : goal.overflow_add-i
 overflow_add-i c = omega arith
 
-
 pub loop-i-smaller : goal.loop-i-smaller
 loop-i-smaller c = omega arith
-
 
 pub loop-i-preserved : goal.loop-i-preserved
 unfolding spared
@@ -47,9 +39,7 @@ loop-i-preserved c =
           (rw (c.holds_own.ensures, c.asked_out.ensures, not-not)),
     )
 
-
 pub returns : goal.returns
 returns c =
     let v = c.loop-i.invariant in
     (rw (le_antisymm v.0 c.loop-i-test.false) at v.2, v.1)
-

@@ -1,6 +1,6 @@
 use mathlib.Core.Path.{◌≡◌, refl, sym, ◌∙◌, ap}
-use mathlib.Core.Bool.{Bool, false, not}
-use Prim.Native.Nat.{ℕ, ◌-◌, ◌≤◌}
+use mathlib.Core.Bool.{Bool, not}
+use Prim.Native.Nat.{ℕ}
 use native.Mathlib.Omega.{arith}
 use native.Mathlib.Numerals.{add-one}
 use borrow.Author.Rules.{rules}
@@ -13,7 +13,6 @@ pub loop-i-init : goal.loop-i-init
 unfolding any_below
 loop-i-init c = (search rules, refl)
 
-
 pub returns-then-not-row_witnessed : goal.returns-then-not-row_witnessed
 unfolding all_witnessed
 returns-then-not-row_witnessed c =
@@ -22,12 +21,10 @@ returns-then-not-row_witnessed c =
     not (witnessed a.table.now a.columns a.rows.now a.n a.term a.group a.answers.now j) in
     sym (ap not (any-i a.n p c.loop-i.i (omega arith) (ap not (sym c.row_witnessed.ensures ∙ c.if-not-row_witnessed.true))))
 
-
 pub loop-i-preserved : goal.loop-i-preserved
 unfolding any_below
 loop-i-preserved c =
     (search rules, rw (add-one, c.loop-i.invariant.1) (ap not (sym c.row_witnessed.ensures ∙ c.if-not-row_witnessed.false)))
-
 
 pub returns : goal.returns
 unfolding all_witnessed
@@ -35,4 +32,3 @@ returns c =
     let a = c.args in
     let e : c.loop-i.i ≡ a.n = omega arith in
     sym (ap not (rw e at c.loop-i.invariant.1))
-

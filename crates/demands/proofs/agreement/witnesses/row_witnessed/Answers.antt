@@ -1,5 +1,4 @@
 -- `demands::agreement::witnesses::row_witnessed` meets its contract, branch by branch.
-use borrow.Author.Rules.{rules}
 use borrow.Author.Tests.{eq-eqb, ne_eqb, lt-ltb, le-ltb}
 use Rattle.demands.specs.Witness.{witnessed}
 use Rattle.demands.proofs.agreement.witnesses.row_witnessed.Goals as goal
@@ -9,7 +8,6 @@ unfolding witnessed
 returns-then-e-i c =
     let a = c.args in
     rw (← c.widened-e.ensures, eq-eqb c.widened-e.result a.i c.if-e-i.true)
-
 
 pub returns-then-e-n : goal.returns-then-e-n
 unfolding witnessed
@@ -23,11 +21,9 @@ returns-then-e-n c =
     )
     c.is_witness.ensures
 
-
 pub returns : goal.returns
 unfolding witnessed
 returns c =
     let a = c.args in
     let e = c.widened-e.result in
     rw (← c.widened-e.ensures, ne_eqb e a.i c.if-e-i.false, le-ltb e a.n c.if-e-n.false)
-

@@ -1,18 +1,15 @@
-use mathlib.Core.Path.{◌≡◌, refl, ap₂, ◌∙◌}
-use Prim.Native.Nat.{◌-◌, ◌≤◌}
+use mathlib.Core.Path.{refl, ap₂, ◌∙◌}
 use native.Mathlib.Omega.{arith}
 use native.Mathlib.Nat.{le_antisymm}
-use lib.ListN.{length, length-set}
+use lib.ListN.{length-set}
 use borrow.Author.Rules.{rules}
 use Rattle.laws.specs.Codes.{prior_code}
-use Rattle.laws.specs.Wrote.{Wrote}
 use Rattle.laws.specs.Writes.{wrote_none, wrote-store}
 use Rattle.lanes.specs.Compound.{prior_lane}
 use Rattle.lanes.proofs.vetted.compound.prior_lanes.Goals as goal
 
 pub loop-j-init : goal.loop-j-init
 loop-j-init c = (search rules, refl, wrote_none _ _ _ _)
-
 
 pub loop-j-preserved : goal.loop-j-preserved
 unfolding prior_lane
@@ -25,10 +22,8 @@ loop-j-preserved c =
           ∙ ap₂ prior_code (v.2.below _ (omega arith)) (v.2.below _ (omega arith))),
     )
 
-
 pub returns : goal.returns
 returns c =
     let v = c.loop-j.invariant in
     let q = le_antisymm v.0 c.loop-j-test.false in
     rw q at v.2
-

@@ -1,18 +1,15 @@
-use mathlib.Core.Path.{◌≡◌, refl, ap, ◌∙◌}
-use Prim.Native.Nat.{◌-◌, ◌≤◌}
+use mathlib.Core.Path.{refl, ap, ◌∙◌}
 use native.Mathlib.Omega.{arith}
 use native.Mathlib.Nat.{le_antisymm}
-use lib.ListN.{length, length-set}
+use lib.ListN.{length-set}
 use borrow.Author.Rules.{rules}
 use Rattle.laws.specs.Codes.{turned_code}
-use Rattle.laws.specs.Wrote.{Wrote}
 use Rattle.laws.specs.Writes.{wrote_none, wrote-store}
 use Rattle.lanes.specs.Compound.{turned_lane}
 use Rattle.lanes.proofs.vetted.compound.turned_lanes.Goals as goal
 
 pub loop-j-init : goal.loop-j-init
 loop-j-init c = (search rules, refl, wrote_none _ _ _ _)
-
 
 pub loop-j-preserved : goal.loop-j-preserved
 unfolding turned_lane
@@ -24,10 +21,8 @@ loop-j-preserved c =
           (c.turned_code.ensures ∙ ap turned_code (v.2.below _ (omega arith))),
     )
 
-
 pub returns : goal.returns
 returns c =
     let v = c.loop-j.invariant in
     let q = le_antisymm v.0 c.loop-j-test.false in
     rw q at v.2
-

@@ -1,13 +1,8 @@
 -- `lanes::vetted::compound::turned_lanes` meets its contract.
-use mathlib.Core.Path.{◌≡◌, refl, ap, ◌∙◌}
+use mathlib.Core.Path.{◌≡◌}
 use Prim.Native.Nat.{◌-◌, ◌≤◌}
-use native.Mathlib.Omega.{arith}
-use native.Mathlib.Nat.{le_antisymm}
-use lib.ListN.{length, length-set}
-use borrow.Author.Rules.{rules}
-use Rattle.laws.specs.Codes.{turned_code}
+use lib.ListN.{length}
 use Rattle.laws.specs.Wrote.{Wrote}
-use Rattle.laws.specs.Writes.{wrote_none, wrote-store}
 use Rattle.lanes.specs.Compound.{turned_lane}
 use Rattle.lanes.proofs.vetted.compound.turned_lanes.Given as goal
 
@@ -15,7 +10,5 @@ abbrev pub invariant-loop-j : goal.invariant-loop-j
 invariant-loop-j l =
     (l.j ≤ l.count) × (length l.codes ≡ length l.initial.codes) × Wrote 0 (turned_lane l.initial.codes l.l) l.a l.j l.initial.codes l.codes
 
-
 abbrev pub decreases-loop-j : goal.decreases-loop-j
 decreases-loop-j l = l.count - l.j
-

@@ -1,25 +1,14 @@
 -- `lanes::vetted::equal::equal_lanes` meets its contract.
-use mathlib.Core.Path.{◌≡◌, refl}
+use mathlib.Core.Path.{◌≡◌}
 use Prim.Native.Nat.{◌-◌, ◌≤◌}
-use native.Mathlib.Omega.{arith}
-use native.Mathlib.Nat.{le_antisymm}
-use lib.ListN.{length, length-set}
-use mir.Syntax.{w32}
-use mir.Val.{to_z}
-use mir.Facts.{to_z-of_z}
-use borrow.Author.Rules.{rules, sfits_of}
+use lib.ListN.{length}
 use Rattle.laws.specs.Wrote.{Wrote}
-use Rattle.laws.specs.Writes.{wrote_none, wrote-head}
-use Rattle.lanes.proofs.Stored.{same-value}
 use Rattle.lanes.specs.Equal.{equal_lane}
-use Rattle.lanes.proofs.EqualStored.{equal_is}
 use Rattle.lanes.proofs.vetted.equal.equal_lanes.Given as goal
 
 abbrev pub invariant-loop-j : goal.invariant-loop-j
 invariant-loop-j l =
     (l.j ≤ 64) × (length l.live ≡ length l.initial.live) × Wrote 0 (equal_lane l.initial.live l.v l.values l.at) 0 l.j l.initial.live l.live
 
-
 abbrev pub decreases-loop-j : goal.decreases-loop-j
 decreases-loop-j l = 64 - l.j
-

@@ -1,19 +1,15 @@
-use mathlib.Core.Path.{◌≡◌, refl, ap₂}
-use mathlib.Core.Bool.{true}
-use Prim.Native.Nat.{◌-◌, ◌≤◌}
+use mathlib.Core.Path.{refl, ap₂}
 use native.Mathlib.Omega.{arith}
 use native.Mathlib.Nat.{le_antisymm}
 use lib.Bits.{bit_or}
-use lib.ListN.{length, length-set, get_or}
+use lib.ListN.{length-set}
 use borrow.Author.Rules.{rules}
-use Rattle.laws.specs.Wrote.{Wrote}
 use Rattle.laws.specs.Writes.{wrote_none, wrote-head}
 use Rattle.lanes.specs.KnownLanes.{add_lane}
 use Rattle.lanes.proofs.vetted.known.add_lanes.Goals as goal
 
 pub loop-j-init : goal.loop-j-init
 loop-j-init c = (search rules, refl, wrote_none _ _ _ _)
-
 
 pub loop-j-preserved : goal.loop-j-preserved
 unfolding add_lane
@@ -24,10 +20,8 @@ loop-j-preserved c =
       wrote-head _ _ _ _ _ v.2 (omega arith) (ap₂ bit_or (v.2.above _ (omega arith)) refl),
     )
 
-
 pub returns : goal.returns
 returns c =
     let v = c.loop-j.invariant in
     let q = le_antisymm v.0 c.loop-j-test.false in
     rw q at v.2
-

@@ -7,18 +7,14 @@ pub returns-then-c-eq1 : goal.returns-then-c-eq1
 unfolding pick_code
 returns-then-c-eq1 c = rw (eq-eqb _ _ c.if-c-eq1.true)
 
-
 pub returns-then-c-eq2 : goal.returns-then-c-eq2
 unfolding pick_code
 returns-then-c-eq2 c = rw (ne_eqb _ _ c.if-c-eq1.false, eq-eqb _ _ c.if-c-eq2.true)
-
 
 pub returns-then-c-eq3 : goal.returns-then-c-eq3
 unfolding pick_code
 returns-then-c-eq3 c = rw (ne_eqb _ _ c.if-c-eq1.false, ne_eqb _ _ c.if-c-eq2.false, eq-eqb _ _ c.if-c-eq3.true)
 
-
 pub returns : goal.returns
 unfolding pick_code
 returns c = rw (ne_eqb _ _ c.if-c-eq1.false, ne_eqb _ _ c.if-c-eq2.false, ne_eqb _ _ c.if-c-eq3.false)
-

@@ -1,14 +1,8 @@
 -- `lanes::vetted::known::start_known` meets its contract.
-use mathlib.Core.Path.{◌≡◌, refl, sym, ◌∙◌, ap}
-use mathlib.Core.Bool.{true}
+use mathlib.Core.Path.{◌≡◌}
 use Prim.Native.Nat.{◌-◌, ◌≤◌}
-use native.Mathlib.Omega.{arith}
-use native.Mathlib.Nat.{le_antisymm}
-use lib.Bits.{bit_or}
-use lib.ListN.{length, length-set, get_or}
-use borrow.Author.Rules.{rules}
+use lib.ListN.{length}
 use Rattle.laws.specs.Wrote.{Wrote}
-use Rattle.laws.specs.Writes.{wrote_none, wrote-head}
 use Rattle.lanes.specs.KnownLanes.{start_lane}
 use Rattle.lanes.proofs.vetted.known.start_known.Given as goal
 
@@ -16,7 +10,5 @@ abbrev pub invariant-loop-j : goal.invariant-loop-j
 invariant-loop-j l =
     (l.j ≤ 64) × (length l.known ≡ length l.initial.known) × Wrote 0 (start_lane l.live) 0 l.j l.initial.known l.known
 
-
 abbrev pub decreases-loop-j : goal.decreases-loop-j
 decreases-loop-j l = 64 - l.j
-

@@ -1,20 +1,14 @@
 -- `lanes::vetted::lit::pending_lanes` meets its contract.
-use mathlib.Core.Path.{◌≡◌, refl}
+use mathlib.Core.Path.{◌≡◌}
 use Prim.Native.Nat.{◌-◌, ◌≤◌}
-use native.Mathlib.Omega.{arith}
-use native.Mathlib.Nat.{le_antisymm}
-use lib.ListN.{length, length-set}
-use borrow.Author.Rules.{rules}
+use lib.ListN.{length}
 use Rattle.laws.specs.Wrote.{Wrote}
-use Rattle.laws.specs.Writes.{wrote_none, wrote-head}
-use Rattle.lanes.specs.Lit.{pending, pending_lane, lit}
+use Rattle.lanes.specs.Lit.{pending_lane}
 use Rattle.lanes.proofs.vetted.lit.pending_lanes.Given as goal
 
 abbrev pub invariant-loop-j : goal.invariant-loop-j
 invariant-loop-j l =
     (l.j ≤ 64) × (length l.live ≡ length l.initial.live) × Wrote 0 (pending_lane l.gone l.by l.at) 0 l.j l.initial.live l.live
 
-
 abbrev pub decreases-loop-j : goal.decreases-loop-j
 decreases-loop-j l = 64 - l.j
-

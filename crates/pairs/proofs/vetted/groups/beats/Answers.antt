@@ -1,6 +1,5 @@
 -- `pairs::vetted::groups::beats` meets its contract.
 use mathlib.Core.Path.{sym}
-use borrow.Author.Rules.{rules}
 use Rattle.pairs.proofs.Grouped.{group-first}
 use Rattle.pairs.proofs.vetted.groups.beats.Goals as goal
 
@@ -8,4 +7,3 @@ pub returns : goal.returns
 returns c =
     let r = c.group_code.ensures in
     (sym (group-first c.requires.0.taken _ _ _ _ r.0), r.1)
-

@@ -1,8 +1,6 @@
 use mathlib.Core.Path.{◌≡◌}
-use Prim.Native.Nat.{◌+◌, ◌-◌, ◌≤◌}
+use Prim.Native.Nat.{◌+◌, ◌-◌}
 use native.Mathlib.Omega.{arith}
-use borrow.Author.Rules.{rules}
-use Rattle.plan.specs.Beneath.{MarkedFrom}
 use Rattle.plan.proofs.BeneathLaws.{marked_start, marked_more}
 use Rattle.plan.proofs.vetted.beneath.beneath.Goals as goal
 
@@ -10,11 +8,9 @@ pub loop-k-init : goal.loop-k-init
 loop-k-init c =
     (omega arith, marked_start c.args.table.now c.args.term c.args.exits.now c.telling-marks.result c.telling-marks.ensures)
 
-
 pub mark_parts-requires : goal.mark_parts-requires
 mark_parts-requires c =
     (omega (arith, c.requires.0), c.requires.1, record { each = λ h d g e. c.requires.2.each h d (omega arith) e }, c.loop-k.invariant.1.room)
-
 
 pub loop-k-preserved : goal.loop-k-preserved
 loop-k-preserved c =
@@ -25,7 +21,5 @@ loop-k-preserved c =
     (rw back c.loop-k.invariant.1) in
     (omega arith, rw c.mark_parts.ensures next)
 
-
 pub returns : goal.returns
 returns c = let z : c.loop-k.k ≡ 0 = omega arith in rw z at c.loop-k.invariant.1
-

@@ -7,8 +7,6 @@ pub returns-then-m-lt4 : goal.returns-then-m-lt4
 unfolding own_mask
 returns-then-m-lt4 c = rw (lt-ltb _ _ c.if-m-lt4.true)
 
-
 pub returns : goal.returns
 unfolding own_mask
 returns c = rw (le-ltb _ _ c.if-m-lt4.false)
-

@@ -7,13 +7,10 @@ pub returns-then-m-eq5 : goal.returns-then-m-eq5
 unfolding part_mask
 returns-then-m-eq5 c = rw (eq-eqb _ _ c.if-m-eq5.true)
 
-
 pub returns-then-m-eq6 : goal.returns-then-m-eq6
 unfolding part_mask
 returns-then-m-eq6 c = rw (ne_eqb _ _ c.if-m-eq5.false, eq-eqb _ _ c.if-m-eq6.true)
 
-
 pub returns : goal.returns
 unfolding part_mask
 returns c = rw (ne_eqb _ _ c.if-m-eq5.false, ne_eqb _ _ c.if-m-eq6.false)
-

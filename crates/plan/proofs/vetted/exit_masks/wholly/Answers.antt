@@ -1,5 +1,4 @@
 -- `plan::vetted::exit_masks::wholly` meets its contract.
-use borrow.Author.Rules.{rules}
 use borrow.Author.Tests.{eq-eqb, ne_eqb}
 use Rattle.plan.specs.Told.{wholly_code}
 use Rattle.plan.proofs.vetted.exit_masks.wholly.Goals as goal
@@ -8,8 +7,6 @@ pub returns-then-c-eq0 : goal.returns-then-c-eq0
 unfolding wholly_code
 returns-then-c-eq0 c = rw (eq-eqb _ _ c.if-c-eq0.true)
 
-
 pub returns : goal.returns
 unfolding wholly_code
 returns c = rw (ne_eqb _ _ c.if-c-eq0.false)
-

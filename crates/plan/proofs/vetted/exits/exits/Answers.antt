@@ -1,9 +1,7 @@
 use mathlib.Core.Path.{refl}
-use Prim.Native.Nat.{◌+◌, ◌-◌, ◌≤◌}
+use Prim.Native.Nat.{◌-◌}
 use native.Mathlib.Omega.{arith}
 use lib.ListN.{replicate}
-use borrow.Author.Rules.{rules}
-use Rattle.plan.specs.Exits.{Exits}
 use Rattle.plan.proofs.Parts.{term-low, exits-start, exits-more, parts_in}
 use Rattle.plan.proofs.vetted.exits.exits.Goals as goal
 
@@ -12,18 +10,15 @@ decoded-requires c =
     let l = term-low c.requires in
     (omega arith, c.requires.prepared)
 
-
 pub bounds-exits-top : goal.bounds-exits-top
 bounds-exits-top c =
     let l = term-low c.requires in
     omega arith
 
-
 pub overflow_add-k : goal.overflow_add-k
 overflow_add-k c =
     let l = term-low c.requires in
     omega arith
-
 
 pub loop-k-init : goal.loop-k-init
 loop-k-init c =
@@ -33,12 +28,10 @@ loop-k-init c =
     exits-start a.table.now a.term (omega arith) c.requires.taken.is_record (replicate 128 0) refl c.decoded.result in
     (omega arith, rw c.start_mask.ensures start)
 
-
 pub decoded-requires-in-loop-k : goal.decoded-requires-in-loop-k
 decoded-requires-in-loop-k c =
     let l = term-low c.requires in
     (omega arith, c.requires.prepared)
-
 
 pub push-requires : goal.push-requires
 push-requires c =
@@ -49,7 +42,6 @@ push-requires c =
     (omega arith) c.loop-k.exits c.loop-k.invariant.1 in
     (omega arith, rw c.decoded-in-loop-k.ensures parts, c.loop-k.invariant.1.room)
 
-
 pub loop-k-preserved : goal.loop-k-preserved
 loop-k-preserved c =
     let a = c.args in
@@ -59,7 +51,5 @@ loop-k-preserved c =
     (omega arith) c.loop-k.exits c.loop-k.invariant.1 in
     (omega arith, rw (c.push.ensures, c.decoded-in-loop-k.ensures) next)
 
-
 pub returns : goal.returns
 returns c = c.loop-k.invariant.1
-

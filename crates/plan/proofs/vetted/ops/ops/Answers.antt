@@ -1,25 +1,19 @@
-use mathlib.Core.Path.{◌≡◌, refl, ◌∙◌, ap}
-use Prim.Native.Nat.{ℕ, ◌+◌, ◌-◌, ◌<◌, ◌≤◌}
+use mathlib.Core.Path.{refl, ◌∙◌, ap}
 use native.Mathlib.Omega.{arith}
-use lib.ListN.{length}
-use Rattle.plan.specs.Ops.{op_of, left_of, right_of, OpAt}
+use Rattle.plan.specs.Ops.{op_of, left_of, right_of}
 use Rattle.plan.proofs.Put.{put-length, put-more}
-use borrow.Author.Rules.{rules}
 use Rattle.plan.proofs.vetted.ops.ops.Goals as goal
 
 pub loop-k-init : goal.loop-k-init
 loop-k-init c = (omega arith, refl, λ h l. absurd (omega (arith, l)))
 
-
 pub decoded-r-requires : goal.decoded-r-requires
 decoded-r-requires c =
     (omega arith, c.requires.1)
 
-
 pub put-requires : goal.put-requires
 put-requires c =
     (omega arith, c.loop-k.invariant.1)
-
 
 pub loop-k-preserved : goal.loop-k-preserved
 loop-k-preserved c =
@@ -34,9 +28,7 @@ loop-k-preserved c =
           (c.right_of.ensures ∙ ap right_of e) v.2),
     )
 
-
 pub returns : goal.returns
 returns c =
     let v = c.loop-k.invariant in
     record { room = v.1; each = λ h l. v.2 h (omega arith) }
-

@@ -1,19 +1,13 @@
-use mathlib.Core.Path.{◌≡◌, refl, sym, subst}
-use mathlib.Core.List.{List}
-use Prim.Native.Nat.{ℕ, ◌+◌, ◌*◌, ◌-◌, ◌≤◌}
+use mathlib.Core.Path.{refl, sym, subst}
+use Prim.Native.Nat.{◌*◌, ◌≤◌}
 use native.Mathlib.Nat.{mul-le-mul_left}
 use native.Mathlib.Omega.{arith}
-use lib.IntN.{ℤ}
-use lib.ListN.{length, get_or}
+use lib.ListN.{length}
 use borrow.Author.Rules.{rules}
-use Rattle.model.specs.declared.{BaseTerm.BaseTerm}
-use Rattle.model.specs.Better.{cell}
-use Rattle.model.specs.Query.{row_at}
 use Rattle.rows.specs.Values.{Room}
 use Rattle.rows.specs.Places.{row_in}
 use Rattle.rows.specs.Stretch.{stretch-in, cell_at}
-use Rattle.ranks.specs.Rank.{RankAt}
-use Rattle.ranks.proofs.Filled.{Ranking, ranking-none, ranking-more, ranked-all}
+use Rattle.ranks.proofs.Filled.{ranking-none, ranking-more, ranked-all}
 use Rattle.ranks.proofs.vetted.table.fill_column.Invariants.{RankOf}
 use Rattle.ranks.proofs.vetted.table.fill_column.Goals as goal
 
@@ -26,30 +20,23 @@ loop-i-init c =
           a.k a.ranks.now,
     )
 
-
 pub overflow_mul-i : goal.overflow_mul-i
 overflow_mul-i c = omega (arith, c.loop-i.invariant.0)
-
 
 pub overflow_mul-first : goal.overflow_mul-first
 overflow_mul-first c = omega (arith, c.loop-i.invariant.0)
 
-
 pub overflow_mul-from : goal.overflow_mul-from
 overflow_mul-from c = omega (arith, (row_in c.args.n c.args.columns (length c.args.rows.now) c.requires.run (c.loop-i.i * 64) c.loop-i-test.true))
-
 
 pub overflow_add-from : goal.overflow_add-from
 overflow_add-from c = omega (arith, (row_in c.args.n c.args.columns (length c.args.rows.now) c.requires.run (c.loop-i.i * 64) c.loop-i-test.true), c.requires.below)
 
-
 pub overflow_mul-at : goal.overflow_mul-at
 overflow_mul-at c = omega (arith, (c.requires.room.each c.loop-i.i c.loop-i-test.true))
 
-
 pub overflow_add-at : goal.overflow_add-at
 overflow_add-at c = omega (arith, (c.requires.room.each c.loop-i.i c.loop-i-test.true), c.requires.wide)
-
 
 pub fill_stretch-requires : goal.fill_stretch-requires
 fill_stretch-requires c =
@@ -64,7 +51,6 @@ fill_stretch-requires c =
           (length c.loop-i.ranks) p.run (subst (Room a.n a.stride) (sym c.loop-i.invariant.1) p.room) p.wide t
           r.result r.ensures.0 (omega (arith, r.ensures.1, t)),
     )
-
 
 pub loop-i-preserved : goal.loop-i-preserved
 loop-i-preserved c =
@@ -82,12 +68,9 @@ loop-i-preserved c =
           c.fill_stretch.ensures c.loop-i.invariant.2,
     )
 
-
 pub shape_of-ranks : goal.shape_of-ranks
 shape_of-ranks c = c.loop-i.invariant.1
-
 
 pub returns : goal.returns
 returns c =
     λ marks r. ranked-all c.loop-i.i c.requires.is_base c.loop-i-test.false c.loop-i.invariant.2 r
-

@@ -1,21 +1,13 @@
 -- `rows::vetted::cells::fill_block` meets its contract: of block b the columns below c.
-use mathlib.Core.Path.{◌≡◌, refl, sym, subst}
-use Prim.Native.Nat.{◌+◌, ◌*◌, ◌-◌, ◌≤◌}
-use native.Mathlib.Nat.{le_antisymm}
-use native.Mathlib.Omega.{arith}
+use mathlib.Core.Path.{◌≡◌}
+use Prim.Native.Nat.{◌-◌, ◌≤◌}
 use lib.ListN.{length}
-use borrow.Author.Rules.{rules}
-use Rattle.rows.specs.Values.{Room, Filled}
-use Rattle.rows.specs.Places.{row_in}
-use Rattle.rows.specs.Stretch.{stretch-in}
-use Rattle.rows.proofs.Filled.{filled-block, filled-column}
+use Rattle.rows.specs.Values.{Filled}
 use Rattle.rows.proofs.vetted.cells.fill_block.Given as goal
 
 abbrev pub invariant-loop-c : goal.invariant-loop-c
 invariant-loop-c l =
     (l.c ≤ l.columns) × (length l.values ≡ length l.initial.values) × Filled l.columns l.rows l.n l.b l.c l.values
 
-
 abbrev pub decreases-loop-c : goal.decreases-loop-c
 decreases-loop-c l = l.columns - l.c
-

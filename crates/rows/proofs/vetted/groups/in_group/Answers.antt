@@ -1,6 +1,6 @@
-use mathlib.Core.Path.{◌≡◌, refl, sym, ap, ◌∙◌}
-use mathlib.Core.Bool.{false, not}
-use Prim.Native.Nat.{◌+◌, ◌/◌, ◌^◌, ◌≤◌, ◌<◌}
+use mathlib.Core.Path.{refl, sym, ap, ◌∙◌}
+use mathlib.Core.Bool.{not}
+use Prim.Native.Nat.{◌+◌, ◌^◌}
 use native.Mathlib.Nat.{div-le_self}
 use native.Mathlib.Omega.{arith}
 use lib.Count.{count_trailing_zeros}
@@ -17,18 +17,15 @@ pub loop-left-init : goal.loop-left-init
 unfolding any_below
 loop-left-init c = (search rules, search rules, left-none c.args.group, refl)
 
-
 pub overflow_cast-at : goal.overflow_cast-at
 overflow_cast-at c =
     let w = lowest 8 c.loop-left.left (omega arith) (omega (arith, c.loop-left.invariant.1)) in
     omega (arith, w.within)
 
-
 pub overflow_add-at : goal.overflow_add-at
 overflow_add-at c =
     let w = lowest 8 c.loop-left.left (omega arith) (omega (arith, c.loop-left.invariant.1)) in
     omega (arith, w.within, c.requires.1)
-
 
 pub returns-then-n-at : goal.returns-then-n-at
 returns-then-n-at c =
@@ -39,7 +36,6 @@ returns-then-n-at c =
     let skip = differs-skip a.group c.loop-left.c t a.x.now a.y.now v.2 w.unset v.3 in
     sym (equal-in-past a.group (c.loop-left.c + t) (length a.x.now) a.x.now a.y.now refl (sym c.requires.0) c.requires.1
     c.if-n-at.true skip)
-
 
 pub returns-then-x-at : goal.returns-then-x-at
 unfolding cell
@@ -55,22 +51,18 @@ returns-then-x-at c =
     sym (unequal-in a.group i a.x.now a.y.now (omega (arith, c.requires.1))
     (d ∙ ap not (sym e ∙ ne_eqb _ _ c.if-x-at.true)))
 
-
 pub overflow_cast-left : goal.overflow_cast-left
 overflow_cast-left c =
     let w = lowest 8 c.loop-left.left (omega arith) (omega (arith, c.loop-left.invariant.1)) in
     omega (arith, w.within)
 
-
 pub overflow_shr-left : goal.overflow_shr-left
 overflow_shr-left c =
     (lowest 8 c.loop-left.left (omega arith) (omega (arith, c.loop-left.invariant.1))).within
 
-
 pub loop-left-smaller : goal.loop-left-smaller
 loop-left-smaller c =
     omega (arith, div-le_self c.loop-left.left (2 ^ count_trailing_zeros 8 c.loop-left.left))
-
 
 pub loop-left-preserved : goal.loop-left-preserved
 unfolding cell
@@ -91,10 +83,8 @@ loop-left-preserved c =
       none_more i (differs a.group a.x.now a.y.now) skip (d ∙ ap not (sym e ∙ eq-eqb _ _ c.if-x-at.false)),
     )
 
-
 pub returns : goal.returns
 returns c =
     let a = c.args in
     let v = c.loop-left.invariant in
     sym (equal-in-left a.group c.loop-left.c a.x.now a.y.now (sym c.loop-left-test.false ∙ v.2) v.3)
-

@@ -1,13 +1,11 @@
-use mathlib.Core.Path.{◌≡◌, refl, sym, ◌∙◌, ap}
+use mathlib.Core.Path.{refl, sym, ◌∙◌, ap}
 use mathlib.Core.Logic.{⊎_elim}
-use Prim.Native.Nat.{ℕ, ◌-◌, ◌<◌, ◌≤◌}
+use Prim.Native.Nat.{◌≤◌}
 use native.Mathlib.Omega.{arith}
-use lib.Count.{count_trailing_zeros, trailing_le}
-use lib.ListN.{length, get_or, length-set}
+use lib.Count.{trailing_le}
+use lib.ListN.{length-set}
 use lib.Seq.{get_or-set_same, get_or-set_other}
 use borrow.Author.Rules.{rules}
-use Rattle.model.specs.Better.{cell}
-use Rattle.model.specs.Query.{row_at}
 use Rattle.laws.specs.Search.{lt-suc-cases}
 use Rattle.rows.specs.Keys.{key_of, agree-lowest}
 use Rattle.rows.specs.Places.{row-length}
@@ -16,10 +14,8 @@ use Rattle.rows.proofs.vetted.keys.fill_keys.Goals as goal
 pub overflow_cast-c : goal.overflow_cast-c
 overflow_cast-c c = omega (arith, trailing_le 8 c.args.group)
 
-
 pub loop-i-init : goal.loop-i-init
 loop-i-init c = (search rules, refl, λ h l. absurd (omega (arith, l)))
-
 
 pub loop-i-preserved : goal.loop-i-preserved
 loop-i-preserved c =
@@ -31,7 +27,6 @@ loop-i-preserved c =
           (λ q. rw q (get_or-set_same c.loop-i.keys i _ 0 (omega arith) ∙ c.row_key.ensures))
           (lt-suc-cases h i (omega (arith, b))),
     )
-
 
 pub returns : goal.returns
 returns c =
@@ -46,4 +41,3 @@ returns c =
           ∙ ap key_of (agree-lowest a.group _ _ (omega arith) (omega (arith, p.1, long i h)) (omega (arith, p.1, long j k)) e)
           ∙ sym (v.2 j (omega arith));
     }
-

@@ -1,18 +1,12 @@
 -- `rows::vetted::keys::fill_keys` meets its contract: the rows below i have the keys of their cells in column c.
 --
-use mathlib.Core.Path.{◌≡◌, refl, sym, ◌∙◌, ap}
-use mathlib.Core.Logic.{⊎_elim}
+use mathlib.Core.Path.{◌≡◌}
 use Prim.Native.Nat.{ℕ, ◌-◌, ◌<◌, ◌≤◌}
-use native.Mathlib.Omega.{arith}
-use lib.Count.{count_trailing_zeros, trailing_le}
-use lib.ListN.{length, get_or, length-set}
-use lib.Seq.{get_or-set_same, get_or-set_other}
-use borrow.Author.Rules.{rules}
+use lib.Count.{count_trailing_zeros}
+use lib.ListN.{length, get_or}
 use Rattle.model.specs.Better.{cell}
 use Rattle.model.specs.Query.{row_at}
-use Rattle.laws.specs.Search.{lt-suc-cases}
-use Rattle.rows.specs.Keys.{key_of, agree-lowest}
-use Rattle.rows.specs.Places.{row-length}
+use Rattle.rows.specs.Keys.{key_of}
 use Rattle.rows.proofs.vetted.keys.fill_keys.Given as goal
 
 abbrev pub invariant-loop-i : goal.invariant-loop-i
@@ -20,7 +14,5 @@ invariant-loop-i l =
     (l.i ≤ l.n) × (length l.keys ≡ length l.initial.keys)
     × ((h : ℕ) → h < l.i → get_or l.keys h 0 ≡ key_of (cell (row_at l.columns l.rows h) (count_trailing_zeros 8 l.group)))
 
-
 abbrev pub decreases-loop-i : goal.decreases-loop-i
 decreases-loop-i l = l.n - l.i
-

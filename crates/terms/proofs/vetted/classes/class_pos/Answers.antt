@@ -1,7 +1,6 @@
 -- `terms::vetted::classes::class_pos` meets its contract.
 use mathlib.Core.Path.{◌∙◌, sym}
 use mir.Facts.{to_z-of_z}
-use borrow.Author.Rules.{rules}
 use Rattle.laws.specs.Ranks.{rank_pos}
 use Rattle.terms.proofs.vetted.classes.class_pos.Goals as goal
 
@@ -11,10 +10,8 @@ returns-then-in_role c =
     let f = c.ranges in
     rw (rw (to_z-of_z f.x) at (sym c.in_role.ensures ∙ c.if-in_role.true))
 
-
 pub returns : goal.returns
 unfolding rank_pos
 returns c =
     let f = c.ranges in
     rw (rw (to_z-of_z f.x) at (sym c.in_role.ensures ∙ c.if-in_role.false))
-

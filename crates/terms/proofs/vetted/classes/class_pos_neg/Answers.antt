@@ -1,7 +1,6 @@
 -- `terms::vetted::classes::class_pos_neg` meets its contract.
 use mathlib.Core.Path.{◌∙◌, sym}
 use mir.Facts.{to_z-of_z}
-use borrow.Author.Rules.{rules}
 use Rattle.laws.specs.Ranks.{rank_pos_neg}
 use Rattle.terms.proofs.vetted.classes.class_pos_neg.Goals as goal
 
@@ -10,7 +9,6 @@ unfolding rank_pos_neg
 returns-then-in_role c =
     let f = c.ranges in
     rw (rw (to_z-of_z f.x) at (sym c.in_role.ensures ∙ c.if-in_role.true))
-
 
 pub returns-then-in_role-2 : goal.returns-then-in_role-2
 unfolding rank_pos_neg
@@ -21,7 +19,6 @@ returns-then-in_role-2 c =
       rw (to_z-of_z f.x) at (sym c.in_role-2.ensures ∙ c.if-in_role-2.true),
     )
 
-
 pub returns : goal.returns
 unfolding rank_pos_neg
 returns c =
@@ -30,4 +27,3 @@ returns c =
       rw (to_z-of_z f.x) at (sym c.in_role.ensures ∙ c.if-in_role.false),
       rw (to_z-of_z f.x) at (sym c.in_role-2.ensures ∙ c.if-in_role-2.false),
     )
-

@@ -1,18 +1,10 @@
 -- `terms::vetted::closure::closure` meets its contract. The array is the closure of the edges before record `i`.
-use mathlib.Core.Path.{◌≡◌}
 use Prim.Native.Nat.{◌-◌, ◌≤◌, ◌<◌}
-use native.Mathlib.Omega.{arith}
-use borrow.Author.Rules.{rules}
-use Rattle.model.specs.Bytes.{byte_at}
-use Rattle.laws.specs.Records.{Bytes}
 use Rattle.terms.specs.Closure.{Closure}
-use Rattle.terms.proofs.Cells.{closure-none, closure-more}
 use Rattle.terms.proofs.vetted.closure.closure.Given as goal
 
 abbrev pub invariant-loop-i : goal.invariant-loop-i
 invariant-loop-i l = (l.j < l.i) × (l.i ≤ l.k) × Closure l.table l.j l.i l.g
 
-
 abbrev pub decreases-loop-i : goal.decreases-loop-i
 decreases-loop-i l = l.k - l.i
-

@@ -1,8 +1,8 @@
 use mathlib.Core.Path.{◌≡◌, refl}
-use Prim.Native.Nat.{ℕ, ◌-◌, ◌≤◌, ◌<◌}
+use Prim.Native.Nat.{ℕ, ◌<◌}
 use native.Mathlib.Omega.{arith}
 use native.Mathlib.Nat.{not-suc-le-zero}
-use lib.ListN.{length, get_or, length-set}
+use lib.ListN.{length, length-set}
 use borrow.Author.Rules.{rules}
 use Rattle.laws.specs.Fill.{fill_more}
 use Rattle.terms.specs.Closure.{end_word}
@@ -10,7 +10,6 @@ use Rattle.terms.proofs.vetted.closure.ends.Goals as goal
 
 pub loop-a-init : goal.loop-a-init
 loop-a-init c = (search rules, refl, λ b l. absurd (not-suc-le-zero l))
-
 
 pub loop-a-preserved : goal.loop-a-preserved
 loop-a-preserved c =
@@ -21,9 +20,7 @@ loop-a-preserved c =
       fill_more 0 (λ (b y : ℕ). y ≡ end_word a.table.now a.j b) c.loop-a.x c.loop-a.a c.end_word-v.result w c.loop-a.invariant.2 c.end_word-v.ensures,
     )
 
-
 pub returns : goal.returns
 returns c = λ a h.
     let w : a < c.loop-a.a = omega arith in
     c.loop-a.invariant.2 a w
-

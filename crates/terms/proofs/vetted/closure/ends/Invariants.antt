@@ -1,18 +1,12 @@
 -- `terms::vetted::closure::ends` meets its contract. The first `a` ends stand in the array.
-use mathlib.Core.Path.{◌≡◌, refl}
+use mathlib.Core.Path.{◌≡◌}
 use Prim.Native.Nat.{ℕ, ◌-◌, ◌≤◌, ◌<◌}
-use native.Mathlib.Omega.{arith}
-use native.Mathlib.Nat.{not-suc-le-zero}
-use lib.ListN.{length, get_or, length-set}
-use borrow.Author.Rules.{rules}
-use Rattle.laws.specs.Fill.{fill_more}
+use lib.ListN.{length, get_or}
 use Rattle.terms.specs.Closure.{end_word}
 use Rattle.terms.proofs.vetted.closure.ends.Given as goal
 
 abbrev pub invariant-loop-a : goal.invariant-loop-a
 invariant-loop-a l = (l.a ≤ 32) × (length l.x ≡ 32) × ((b : ℕ) → b < l.a → get_or l.x b 0 ≡ end_word l.table l.j b)
 
-
 abbrev pub decreases-loop-a : goal.decreases-loop-a
 decreases-loop-a l = 32 - l.a
-

@@ -1,7 +1,7 @@
 use mathlib.Core.Path.{◌≡◌, refl}
 use mathlib.Core.Bool.{Bool, false}
 use mathlib.Core.List.{List, []}
-use Prim.Native.Nat.{ℕ, ◌-◌, ◌≤◌, ◌<◌}
+use Prim.Native.Nat.{ℕ, ◌<◌}
 use native.Mathlib.Omega.{arith}
 use native.Mathlib.Nat.{not-suc-le-zero}
 use lib.ListN.{length, get_or, length-set}
@@ -12,7 +12,6 @@ use Rattle.terms.proofs.vetted.closure.with_edge.Goals as goal
 
 pub loop-a-init : goal.loop-a-init
 loop-a-init c = (search rules, refl, λ b l. absurd (not-suc-le-zero l))
-
 
 pub loop-a-preserved : goal.loop-a-preserved
 unfolding cell_with reaches_at reached_at
@@ -26,10 +25,8 @@ loop-a-preserved c =
           (λ b k. rw (c.row_with-row.ensures b k, c.reached-to.ensures b k)),
     )
 
-
 pub returns : goal.returns
 unfolding cell_at
 returns c = λ a b h k.
     let w : a < c.loop-a.a = omega arith in
     c.loop-a.invariant.2 a w b k
-

@@ -1,21 +1,15 @@
 -- `terms::vetted::closure::with_edge` meets its contract. The first `a` rows stand in the array.
-use mathlib.Core.Path.{◌≡◌, refl}
-use mathlib.Core.Bool.{Bool, false}
-use mathlib.Core.List.{List, []}
+use mathlib.Core.Path.{◌≡◌}
+use mathlib.Core.Bool.{false}
+use mathlib.Core.List.{[]}
 use Prim.Native.Nat.{ℕ, ◌-◌, ◌≤◌, ◌<◌}
-use native.Mathlib.Omega.{arith}
-use native.Mathlib.Nat.{not-suc-le-zero}
-use lib.ListN.{length, get_or, length-set}
-use borrow.Author.Rules.{rules}
-use Rattle.laws.specs.Fill.{fill_more}
-use Rattle.terms.specs.Closure.{cell_at, reaches_at, reached_at, cell_with}
+use lib.ListN.{length, get_or}
+use Rattle.terms.specs.Closure.{cell_with}
 use Rattle.terms.proofs.vetted.closure.with_edge.Given as goal
 
 abbrev pub invariant-loop-a : goal.invariant-loop-a
 invariant-loop-a l =
     (l.a ≤ 32) × (length l.h ≡ 32) × ((i : ℕ) → i < l.a → (b : ℕ) → b < 32 → get_or (get_or l.h i []) b false ≡ cell_with l.x l.g l.e i b)
 
-
 abbrev pub decreases-loop-a : goal.decreases-loop-a
 decreases-loop-a l = 32 - l.a
-

@@ -4,4 +4,3 @@ use Rattle.terms.proofs.vetted.columns.count_columns.Goals as goal
 
 pub returns : goal.returns
 returns c = ones-count c.args.mask c.ranges.mask.fits
-

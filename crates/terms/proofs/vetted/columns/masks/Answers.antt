@@ -1,5 +1,5 @@
 use mathlib.Core.Path.{◌≡◌, refl, ◌∙◌}
-use Prim.Native.Nat.{ℕ, ◌-◌, ◌≤◌, ◌<◌}
+use Prim.Native.Nat.{◌<◌}
 use native.Mathlib.Omega.{arith}
 use lib.ListN.{length, get_or, length-set}
 use borrow.Author.Rules.{rules}
@@ -12,11 +12,9 @@ use Rattle.terms.proofs.vetted.columns.masks.Goals as goal
 pub loop-i-init : goal.loop-i-init
 loop-i-init c = (search rules, refl, masks-none _)
 
-
 pub mask_of-x-requires : goal.mask_of-x-requires
 mask_of-x-requires c =
     rw (c.unnumbered.ensures, column-unnumbered c.args.table.now 8 c.loop-i.i) (c.requires.each c.loop-i.i (omega arith))
-
 
 pub loop-i-preserved : goal.loop-i-preserved
 unfolding byte_at
@@ -30,10 +28,8 @@ loop-i-preserved c =
           (mask-same a.table.now bytes c.loop-i.i (λ k. get_or c.loop-i.a k 0) (mask_below a.table.now c.loop-i.i) c.loop-i.invariant.2),
     )
 
-
 pub returns : goal.returns
 returns c =
     let a = c.args in
     let e : c.loop-i.i ≡ a.m = omega arith in
     rw e at c.loop-i.invariant.2
-

@@ -1,11 +1,11 @@
 use mathlib.Core.Path.{◌≡◌, refl, sym, ◌∙◌}
 use mathlib.Core.Logic.{⊎_elim}
-use Prim.Native.Nat.{ℕ, ◌-◌, ◌≤◌, ◌<◌}
+use Prim.Native.Nat.{ℕ, ◌<◌}
 use native.Mathlib.Omega.{arith}
 use native.Mathlib.Nat.{not-suc-le-zero}
 use lib.Dec.{ltb}
 use lib.IntN.{ℤ, pos}
-use lib.ListN.{length, get_or, length-set, get_or-replicate}
+use lib.ListN.{length, length-set, get_or-replicate}
 use lib.Seq.{get_or-set_other}
 use mir.Syntax.{w32}
 use mir.Val.{to_z, of_z}
@@ -21,7 +21,6 @@ use Rattle.terms.proofs.vetted.prepared.numbers.Goals as goal
 pub loop-i-init : goal.loop-i-init
 loop-i-init c = (search rules, refl, λ j l. absurd (not-suc-le-zero l), λ j l h. get_or-replicate 256 j (pos 0) (pos 0) h)
 
-
 pub loop-i-preserved : goal.loop-i-preserved
 loop-i-preserved c =
     let a = c.args in
@@ -35,7 +34,6 @@ loop-i-preserved c =
       λ j h k. get_or-set_other c.loop-i.a c.loop-i.i j x (pos 0) (λ e. omega (arith, h, e)) ∙ c.loop-i.invariant.3 j (omega (arith, h)) k,
     )
 
-
 pub returns : goal.returns
 returns c =
     let a = c.args in
@@ -47,4 +45,3 @@ returns c =
           c.loop-i.invariant.3 i p h ∙ sym (number_past a.table.now i (past i (omega (arith, p, c.loop-i-test.false)) h)))
           (on-or-off (ltb i c.loop-i.i));
     }
-

@@ -1,13 +1,11 @@
-use mathlib.Core.Path.{◌≡◌, refl, sym, ◌∙◌, subst}
+use mathlib.Core.Path.{◌≡◌, refl, ◌∙◌}
 use mathlib.Core.Logic.{⊎_elim}
-use Prim.Native.Nat.{ℕ, ◌+◌, ◌-◌, ◌≤◌, ◌<◌}
+use Prim.Native.Nat.{◌+◌, ◌-◌, ◌<◌}
 use native.Mathlib.Omega.{arith}
-use lib.ListN.{length, get_or, set, length-set}
+use lib.ListN.{length, get_or, length-set}
 use lib.Seq.{get_or-set_same, get_or-set_other}
-use borrow.Author.Rules.{rules}
 use Rattle.model.specs.Record.{record_count}
 use Rattle.laws.specs.Search.{lt-suc-cases}
-use Rattle.terms.specs.Prepared.{NextTerm}
 use Rattle.terms.proofs.RunEnd.{few-records, next-run, FirstFrom, first-none, first_next, first-down}
 use Rattle.terms.proofs.vetted.prepared.run_ends.Goals as goal
 
@@ -15,16 +13,13 @@ pub overflow_cast-n : goal.overflow_cast-n
 unfolding record_count
 overflow_cast-n c = omega (arith, few-records c.args.table.now c.requires)
 
-
 pub loop-k-init : goal.loop-k-init
 loop-k-init c = (omega arith, refl, first-none _ _, λ j a b. absurd (omega (arith, a, b)))
-
 
 pub bounds-ends-at : goal.bounds-ends-at
 unfolding record_count
 bounds-ends-at c =
     omega (arith, few-records c.args.table.now c.requires, c.loop-k.invariant.0)
-
 
 pub loop-k-preserved : goal.loop-k-preserved
 unfolding record_count
@@ -46,10 +41,8 @@ loop-k-preserved c =
           (lt-suc-cases k j (omega (arith, a))),
     )
 
-
 pub returns : goal.returns
 unfolding record_count
 returns c =
     let t = c.args.table.now in
     record { each = λ k h term. next-run t c.requires k (get_or c.loop-k.ends k 0) term (c.loop-k.invariant.3 k (omega arith) h) }
-

@@ -6,7 +6,7 @@ use lib.IntN.{pos}
 use lib.ListN.{get_or}
 use mir.Syntax.{w32}
 use mir.Facts.{to_z-of_z}
-use borrow.Author.Rules.{rules, sfits_of}
+use borrow.Author.Rules.{sfits_of}
 use Rattle.model.specs.Record.{record_at}
 use Rattle.terms.proofs.Ends.{number-u, number-v}
 use Rattle.terms.proofs.vetted.values.decoded.Goals as goal
@@ -19,4 +19,3 @@ returns c =
     let u = to_z-of_z {w = w32} {z = get_or a.numbers.now (2 * a.k) (pos 0)} (sfits_of c.record_of-arg-1.given) ∙ n.each (2 * a.k) (omega (arith, c.requires.0)) ∙ number-u a.table.now a.k in
     let v = to_z-of_z {w = w32} {z = get_or a.numbers.now (2 * a.k + 1) (pos 0)} (sfits_of c.record_of-arg-2-1.given) ∙ n.each (2 * a.k + 1) (omega (arith, c.requires.0)) ∙ number-v a.table.now a.k in
     c.record_of.ensures ∙ rw (c.kind_at.ensures, c.p_at.ensures, c.q_at.ensures, u, v)
-

@@ -1,6 +1,6 @@
 use mathlib.Core.Path.{◌≡◌, sym, ◌∙◌, ap}
 use mathlib.Core.Logic.{⊎_elim}
-use Prim.Native.Nat.{ℕ, ◌+◌, ◌*◌, ◌-◌, ◌≤◌, ◌<◌}
+use Prim.Native.Nat.{ℕ, ◌+◌, ◌*◌, ◌≤◌, ◌<◌}
 use native.Mathlib.Omega.{arith}
 use lib.IntN.{pos}
 use lib.ListN.{get_or}
@@ -8,7 +8,6 @@ use mir.Syntax.{w32}
 use mir.Val.{SFits, to_z, of_z}
 use mir.Facts.{to_z-of_z}
 use borrow.Author.Tests.{lt-ltb, le-ltb}
-use borrow.Author.Rules.{rules}
 use Rattle.laws.specs.Search.{lt-suc-cases}
 use Rattle.terms.specs.Prepared.{number_at}
 use Rattle.terms.proofs.Ends.{place-named, place-unnamed}
@@ -18,7 +17,6 @@ pub loop-i-init : goal.loop-i-init
 loop-i-init c =
     let l = c.requires.0 in
     (omega arith, omega (arith, l.before), λ p a b. absurd (omega arith))
-
 
 pub returns-then-numbers-i : goal.returns-then-numbers-i
 returns-then-numbers-i c =
@@ -36,7 +34,6 @@ returns-then-numbers-i c =
           ∙ sym (lt-ltb i (2 * c.args.e) before);
     }
 
-
 pub loop-i-preserved : goal.loop-i-preserved
 loop-i-preserved c =
     let i = c.loop-i.i in
@@ -49,7 +46,6 @@ loop-i-preserved c =
       λ p a b q. ⊎_elim (λ h. c.loop-i.invariant.2 p a h q) (λ h. other (rw h at q)) (lt-suc-cases p i (omega arith)),
     )
 
-
 pub returns : goal.returns
 returns c =
     let none : (p : ℕ) → 2 * c.args.k + 2 ≤ p → p < 2 * c.args.e → number_at c.args.table.now p ≡ c.args.x → ⊥
@@ -61,4 +57,3 @@ returns c =
       named = place-unnamed c.args.table.now c.args.k c.args.e c.args.x c.requires.0.each none
           ∙ sym (le-ltb (2 * c.args.e) (2 * c.args.e) (omega arith));
     }
-

@@ -1,11 +1,10 @@
 use mathlib.Core.Path.{◌≡◌, sym}
-use Prim.Native.Nat.{◌+◌, ◌-◌, ◌≤◌, ◌<◌}
+use Prim.Native.Nat.{◌+◌}
 use native.Mathlib.Omega.{arith}
 use native.Mathlib.Numerals.{add-one}
-use lib.Dec.{eqb}
 use borrow.Author.Rules.{rules}
 use Rattle.model.specs.Search.{any_in}
-use Rattle.laws.specs.Runs.{values_between, between_none, between_more}
+use Rattle.laws.specs.Runs.{between_none, between_more}
 use Rattle.records.specs.Fields.{value_at}
 use Rattle.terms.proofs.vetted.values.has_role.Goals as goal
 
@@ -14,7 +13,6 @@ unfolding any_in
 loop-i-init c =
     let a = c.args in
     (search rules, search rules, sym (rw (between_none a.table.now a.k (a.k + 1) (omega arith))))
-
 
 pub loop-i-preserved : goal.loop-i-preserved
 unfolding any_in
@@ -26,10 +24,8 @@ loop-i-preserved c =
       rw (add-one, between_more a.table.now a.k c.loop-i.i (value_at a.table.now c.loop-i.i) c.loop-i.invariant.0 r, c.p_at.ensures, c.loop-i.invariant.2),
     )
 
-
 pub returns : goal.returns
 returns c =
     let a = c.args in
     let e : c.loop-i.i ≡ a.e = omega arith in
     rw e at c.loop-i.invariant.2
-

@@ -4,7 +4,6 @@ use Prim.Native.Nat.{◌*◌}
 use native.Mathlib.Omega.{arith}
 use lib.IntN.{pos}
 use lib.ListN.{get_or}
-use borrow.Author.Rules.{rules}
 use Rattle.model.specs.Record.{u_at}
 use Rattle.records.proofs.Signed.{eq-bits}
 use Rattle.terms.proofs.Ends.{number-u}
@@ -16,4 +15,3 @@ returns c =
     let i = c.args.i in
     let u : get_or c.args.numbers.now (2 * i) (pos 0) ≡ u_at t i = c.requires.1.each (2 * i) (omega (arith, c.requires.0)) ∙ number-u t i in
     rw (eq-bits c.ranges.x (record { sfits = c.result-1.given }), c.p_at.ensures, u)
-

@@ -1,7 +1,4 @@
-use mathlib.Core.Path.{◌≡◌, refl}
-use Prim.Native.Nat.{◌-◌, ◌≤◌}
-use mathlib.Core.Bool.{◌&&◌}
-use lib.Dec.{leb}
+use mathlib.Core.Path.{refl}
 use native.Mathlib.Nat.{le_antisymm}
 use native.Mathlib.Numerals.{add-one}
 use native.Mathlib.Omega.{arith}
@@ -15,11 +12,9 @@ pub loop-j-init : goal.loop-j-init
 unfolding any_below
 loop-j-init c = (search rules, refl)
 
-
 pub loop-j-preserved : goal.loop-j-preserved
 unfolding any_below bit
 loop-j-preserved c = (omega arith, rw (add-one, c.loop-j.invariant.1))
-
 
 pub returns : goal.returns
 unfolding fails_group
@@ -27,4 +22,3 @@ returns c =
     let v = c.loop-j.invariant in
     let q = le_antisymm v.0 c.loop-j-test.false in
     rw q at v.1
-

@@ -1,6 +1,5 @@
 -- `table::vetted::asked::query::query_verdict` meets its contract.
-use mathlib.Core.Path.{◌≡◌, sym, ◌∙◌}
-use borrow.Author.Rules.{rules}
+use mathlib.Core.Path.{sym, ◌∙◌}
 use Rattle.model.specs.Query.{query_verdict}
 use Rattle.laws.specs.Taken.{term-gives}
 use Rattle.table.proofs.Verdicts.{rows-judged, some-column}
@@ -12,7 +11,6 @@ group_and_room-requires c =
     let own = sym c.term_verdict-own.ensures ∙ c.in-Passed.is in
     some-column (term-gives a.table.now a.columns c.fails_rows-unfit.result a.term own).0
 
-
 pub returns-in-Refused : goal.returns-in-Refused
 unfolding query_verdict
 returns-in-Refused c =
@@ -20,11 +18,9 @@ returns-in-Refused c =
     let e = rows-judged a.table.now a.columns a.term c.fails_rows-unfit.ensures in
     rw (e ∙ (sym c.term_verdict-own.ensures ∙ c.in-Refused.is))
 
-
 pub returns-in-Passed : goal.returns-in-Passed
 unfolding query_verdict
 returns-in-Passed c =
     let a = c.args in
     let e = rows-judged a.table.now a.columns a.term c.fails_rows-unfit.ensures in
     rw (e ∙ (sym c.term_verdict-own.ensures ∙ c.in-Passed.is)) c.group_and_room.ensures
-
