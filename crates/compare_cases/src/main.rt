@@ -74,10 +74,7 @@ fn call(
     if read::number(cells, 65) == b't' as u64 {
         marked(rt, perfect::perfect(table, columns, term, first))
     } else {
-        compared(
-            rt,
-            compare::compare(table, columns, term, first, second),
-        )
+        compared(rt, compare::compare(table, columns, term, first, second))
     }
 }
 
