@@ -52,11 +52,7 @@ fn case(rt: &impl Print, text: &[u8], at: usize) -> io::Result<usize> {
     Ok(end)
 }
 
-fn run(
-    rt: &impl Print,
-    asked: &mut [u64; 4096],
-    records: &[u64; 4096],
-) -> io::Result<()> {
+fn run(rt: &impl Print, asked: &mut [u64; 4096], records: &[u64; 4096]) -> io::Result<()> {
     let mut bytes = [0u8; 1560];
     read::table(records, &mut bytes);
     let mut numbers = [0i32; 8400];
@@ -70,25 +66,13 @@ fn run(
     Ok(())
 }
 
-fn with_room(
-    rt: &impl Print,
-    asked: &[u64; 4096],
-    table: &[u8],
-    rows: &[i32],
-) -> io::Result<()> {
+fn with_room(rt: &impl Print, asked: &[u64; 4096], table: &[u8], rows: &[i32]) -> io::Result<()> {
     let columns = read::number(asked, 65) as usize;
     let n = option(asked, b'r', two_more(rows.len(), columns)) as usize;
     let mut known = [0u16; 1200];
     let mut other = [0u16; 1200];
     if n <= 1200 {
-        every_group(
-            rt,
-            asked,
-            table,
-            rows,
-            &mut known[0..n],
-            &mut other[0..n],
-        )?;
+        every_group(rt, asked, table, rows, &mut known[0..n], &mut other[0..n])?;
     }
     Ok(())
 }
