@@ -1,5 +1,5 @@
 -- `pick_files::read_files::read_open` is safe and ends: each turn reads on in the buffer.
-use Rattle.std.specs.Prelude.{◌≡◌, ◌-◌, ◌≤◌, length}
+use Rattle.std.specs.Prelude.{◌-◌, ◌≤◌, length}
 use Rattle.pick_files.proofs.read_files.read_open.Given as goal
 
 abbrev pub invariant-loop-n : goal.invariant-loop-n
