@@ -2,6 +2,7 @@
 // more that rise by one as `0..7`.
 use crate::say;
 use model::{Place, QueryReply};
+use std::io;
 
 // What every entry of a buffer holds before a call.
 const UNTOUCHED: u16 = 7777;
@@ -16,24 +17,25 @@ pub fn clear(buffer: &mut [u16]) {
 
 // Whether the answer of that turn is another one. Says both if so.
 pub fn apart(
+    rt: &impl Print,
     reply: QueryReply,
     known: &[u16],
     turn: u64,
     given: QueryReply,
     other: &[u16],
-) -> bool {
+) -> io::Result<bool> {
     if same(reply, known, given, other) {
-        return false;
+        return Ok(false);
     }
-    answer(reply, known);
-    say::numbered(b", APART in group :", 0, turn / 2);
+    answer(rt, reply, known)?;
+    say::numbered(rt, b", APART in group :", 0, turn / 2)?;
     if turn % 2 == 1 {
-        say::text(b" by parts ");
+        say::text(rt, b" by parts ")?;
     } else {
-        say::text(b" directly ");
+        say::text(rt, b" directly ")?;
     }
-    answer(given, other);
-    true
+    answer(rt, given, other)?;
+    Ok(true)
 }
 
 // Whether two answers are the same, reply and buffer.
@@ -73,50 +75,51 @@ fn place(refusal: u32, at: Place) -> u64 {
     }
 }
 
-pub fn answer(reply: QueryReply, buffer: &[u16]) {
+pub fn answer(rt: &impl Print, reply: QueryReply, buffer: &[u16]) -> io::Result<()> {
     match reply {
         QueryReply::Kept(n) => {
-            say::numbered(b"kept :", 0, n as u64);
+            say::numbered(rt, b"kept :", 0, n as u64)?;
         }
-        QueryReply::Refused(why) => say::refused(why),
+        QueryReply::Refused(why) => say::refused(rt, why)?,
     }
     if buffer.len() > 0 {
-        say::text(b":");
+        say::text(rt, b":")?;
     }
-    entries(buffer);
+    entries(rt, buffer)
 }
 
-fn entries(buffer: &[u16]) {
+fn entries(rt: &impl Print, buffer: &[u16]) -> io::Result<()> {
     let mut i = 0;
     while i < buffer.len() {
-        let end = run(buffer, i);
+        let end = run(rt, buffer, i)?;
         if end <= i {
-            return;
+            return Ok(());
         }
         i = end;
     }
+    Ok(())
 }
 
 // Says the run of entries that begins at i. Returns the place after it.
-fn run(buffer: &[u16], i: usize) -> usize {
+fn run(rt: &impl Print, buffer: &[u16], i: usize) -> io::Result<usize> {
     if i >= buffer.len() {
-        return i;
+        return Ok(i);
     }
     let e = wide(buffer[i]);
     let alike = stops(buffer, i, 0);
     if alike >= 8 + i {
-        say::numbered(b" :", 0, (alike - i) as u64);
-        say::numbered(b"*:", 0, e);
-        return alike;
+        say::numbered(rt, b" :", 0, (alike - i) as u64)?;
+        say::numbered(rt, b"*:", 0, e)?;
+        return Ok(alike);
     }
     let rising = stops(buffer, i, 1);
     if rising >= 8 + i {
-        say::numbered(b" :", 0, e);
-        say::numbered(b"..:", 0, e % 65536 + ((rising - i - 1) % 65536) as u64);
-        return rising;
+        say::numbered(rt, b" :", 0, e)?;
+        say::numbered(rt, b"..:", 0, e % 65536 + ((rising - i - 1) % 65536) as u64)?;
+        return Ok(rising);
     }
-    say::numbered(b" :", 0, e);
-    i + 1
+    say::numbered(rt, b" :", 0, e)?;
+    Ok(i + 1)
 }
 
 // Where the entries from i on stop growing by `step`.

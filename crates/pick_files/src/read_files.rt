@@ -1,6 +1,10 @@
 // The start of a file, read into a buffer.
-ghost use Rattle.std.specs.Prelude.{◌≤◌, length};
-ghost use Rattle.io.specs.Counts.{IsPrefixLen};
+ghost use Rattle.std.specs.Prelude.{◌≡◌, ◌≤◌, length, take};
+
+use crate::fail::{fail, shown};
+use std::io::{ErrorKind, Read};
+use std::rt::Files;
+use std::{fs, io};
 
 // The start of a file: how many bytes were read, and whether the system calls the file missing.
 #[derive(Drop)]
@@ -9,66 +13,53 @@ pub struct Start {
     pub bytes: usize,
 }
 
-// What one read gave: how many bytes, none at the end of the file; or that it failed.
-#[derive(Drop)]
-struct Got {
-    failed: bool,
-    bytes: usize,
-}
-
 // Reads the start of a file, as far as the buffer goes. A missing file reads as empty. One that is there but cannot be
 // read counts as empty, and a line on standard error names it.
-pub fn read_file(path: &[u8], buf: &mut [u8]) -> Start
-    ensures { IsPrefixLen result.bytes buf.new }
+pub fn read_file<R: Files + Eprint>(rt: &R, path: &[u8], buf: &mut [u8]) -> Start
+    ensures within { result.bytes ≤ length buf.new }
+    ensures prefix { result.bytes ≡ length (take result.bytes buf.new) }
 {
-    let fd = os::open_read(path);
-    if fd < 0 {
-        let missing = os::errno() == libc::ENOENT;
-        if !missing {
-            os::fail(path);
+    match open_read(rt, path) {
+        Ok(mut file) => Start {
+            missing: false,
+            bytes: read_open(rt, &mut file, path, buf),
+        },
+        Err(error) => {
+            let missing = error.kind() == ErrorKind::NotFound;
+            if !missing {
+                fail(rt, shown(path), &error);
+            }
+            Start { missing, bytes: 0 }
         }
-        return Start { missing, bytes: 0 };
     }
-    let n = read_open(fd, path, buf);
-    libc::close(fd);
-    Start {
-        missing: false,
-        bytes: n,
+}
+
+// Opens a file for reading. A path must be text for that.
+fn open_read<R: Files>(rt: &R, path: &[u8]) -> io::Result<R::File> {
+    match str::from_utf8(path) {
+        Ok(text) => fs::open(rt, text),
+        Err(_) => Err(io::Error::from(ErrorKind::InvalidFilename)),
     }
 }
 
 // Reads an open file until the buffer is full or the file ends.
-fn read_open(fd: i32, path: &[u8], buf: &mut [u8]) -> usize
-    ensures { IsPrefixLen result buf.new }
+fn read_open<F: Read>(rt: &impl Eprint, file: &mut F, path: &[u8], buf: &mut [u8]) -> usize
+    ensures within { result ≤ length buf.new }
+    ensures prefix { result ≡ length (take result buf.new) }
 {
     let mut n = 0;
     while n < buf.len() {
-        let got = read_some(fd, &mut buf[n..]);
-        if got.failed {
-            os::fail(path);
-            return 0;
-        }
-        if got.bytes == 0 {
+        let got = match file.read(&mut buf[n..]) {
+            Ok(got) => got,
+            Err(error) => {
+                fail(rt, shown(path), &error);
+                return 0;
+            }
+        };
+        if got == 0 {
             return n;
         }
-        n += got.bytes;
+        n += got;
     }
     n
-}
-
-// One read.
-fn read_some(fd: i32, buf: &mut [u8]) -> Got
-    ensures { result.bytes ≤ length buf.old }
-{
-    let got = libc::read(fd, buf);
-    if got < 0 {
-        return Got {
-            failed: true,
-            bytes: 0,
-        };
-    }
-    Got {
-        failed: false,
-        bytes: io::count(got, buf),
-    }
 }
