@@ -1,8 +1,8 @@
 -- When one row is better than another (SPECIFICATION, "When a row is better"). `better t x y` reads "y is better than
 -- x".
-use Rattle.std.specs.Prelude.{◌≡◌}
+use Rattle.std.specs.Prelude.{◌≡◌, ◌&&◌, ◌||◌, ◌<◌, ◌∷◌, ◌-ℤ◌}
 use mathlib.Core.List.{Memᴰ}
-use Rattle.model.specs.Words.{Bool, true, false, not, cond, ◌&&◌, ◌||◌, ℕ, ◌<◌, List, [], ◌∷◌, ltb, eqb, ℤ, pos, nat_abs, ◌-ℤ◌, get_or, lt_z, Value, BaseTerm, Lowest, Highest, Around, Between, Pos, Neg}
+use Rattle.model.specs.Words.{Bool, true, false, not, cond, ℕ, List, [], ltb, eqb, ℤ, pos, nat_abs, get_or, lt_z, Value, BaseTerm, Lowest, Highest, Around, Between, Pos, Neg}
 use Rattle.model.specs.Words.{PosNeg, PosPos, Explicit, Any, Pareto, Prior, Both}
 use Rattle.model.specs.Search.{any_below, any_in}
 use Rattle.model.specs.Bytes.{bit, eq_z}

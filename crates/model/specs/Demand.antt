@@ -1,5 +1,6 @@
 -- Chains (SPECIFICATION, "Chains"), and the words of the third signed sentence ("The third promise, word by word").
-use Rattle.model.specs.Words.{Bool, true, false, ◌&&◌, ℕ, suc, ◌+◌, ◌*◌, List, eqb, ℤ, get_or, set, Lowest, Highest, Around, Between, Pos, Neg, PosNeg, PosPos, Explicit, Any, Pareto, Prior, Both}
+use Rattle.std.specs.Prelude.{◌&&◌, ◌+◌, ◌*◌}
+use Rattle.model.specs.Words.{Bool, true, false, ℕ, suc, List, eqb, ℤ, get_or, set, Lowest, Highest, Around, Between, Pos, Neg, PosNeg, PosPos, Explicit, Any, Pareto, Prior, Both}
 use Rattle.model.specs.Record.{p_at, q_at}
 use Rattle.model.specs.Term.{Term, term_at, base, pair, dual}
 use Rattle.model.specs.Better.{equal}

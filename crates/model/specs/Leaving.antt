@@ -1,6 +1,7 @@
 -- Rows left out, and two catalogues (SPECIFICATION, "Leaving out rows"): the words of those sentences. What is claimed of
 -- them stands in `theorems`.
-use Rattle.model.specs.Words.{Bool, cond, ℕ, zero, suc, ◌-◌, List, [], ◌++◌, ltb, ℤ, get_or}
+use Rattle.std.specs.Prelude.{◌-◌, ◌++◌}
+use Rattle.model.specs.Words.{Bool, cond, ℕ, zero, suc, List, [], ltb, ℤ, get_or}
 use Rattle.model.specs.Search.{list_below}
 use Rattle.model.specs.Query.{row_count, row_at}
 use Rattle.model.specs.Demand.{keeps}

@@ -1,6 +1,7 @@
 -- A table's records (SPECIFICATION, "The table"): the fields, what they stand for, and which values belong to which
 -- term.
-use Rattle.model.specs.Words.{Bool, true, false, cond, ℕ, zero, suc, ◌+◌, ◌*◌, ◌/◌, List, [], ◌∷◌, ◌++◌, eqb, ℤ, length, Value, Record, Lowest, Highest, Around, Between, Pos, Neg, PosNeg, PosPos}
+use Rattle.std.specs.Prelude.{◌+◌, ◌*◌, ◌/◌, ◌∷◌, ◌++◌}
+use Rattle.model.specs.Words.{Bool, true, false, cond, ℕ, zero, suc, List, [], eqb, ℤ, length, Value, Record, Lowest, Highest, Around, Between, Pos, Neg, PosNeg, PosPos}
 use Rattle.model.specs.Words.{Explicit, Any, Pareto, Prior, Both, Joined, Dual, Base, Compound, Unknown}
 use Rattle.model.specs.Bytes.{byte_at, word_at, signed}
 
