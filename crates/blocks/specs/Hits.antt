@@ -14,14 +14,14 @@ use Rattle.laws.specs.Search.{none-e}
 use Rattle.laws.specs.Members.{and-off}
 use Rattle.laws.specs.Order.{Rel, Strict}
 use Rattle.laws.specs.Sound.{sound, within}
-use Rattle.laws.specs.Strict.{ordered}
+use Rattle.laws.proofs.Strict.{ordered}
 use Rattle.laws.specs.Rows.{beats-strict}
 use Rattle.laws.specs.Codes.{code}
 use Rattle.laws.specs.AcceptedTable.{accepted-table}
-use Rattle.laws.specs.Taken.{taken-sound}
+use Rattle.laws.proofs.Taken.{taken-sound}
 use Rattle.laws.specs.Cases.{below_or_not}
 use Rattle.laws.specs.Elimination.{Apart}
-use Rattle.laws.specs.Beats.{beats-one, beats-two}
+use Rattle.laws.proofs.Beats.{beats-one, beats-two}
 use Rattle.lanes.specs.Lit.{lit, hit}
 use Rattle.blocks.specs.Alive.{Cells, Alive}
 use Rattle.blocks.specs.Ready.{Ready}

@@ -11,11 +11,12 @@ use Rattle.model.specs.Term.{term_at}
 use Rattle.model.specs.Better.{Row}
 use Rattle.model.specs.Compare.{outcome, compare_reply}
 use Rattle.laws.specs.Bools.{and_l, and_r}
-use Rattle.laws.specs.Strict.{transitive}
-use Rattle.laws.specs.Outcome.{is_first, turned, is-first}
-use Rattle.laws.specs.Compared.{outcome-turned}
-use Rattle.laws.specs.Taken.{taken-sound}
-use Rattle.laws.specs.Replied.{compared-reply, reply-self}
+use Rattle.laws.proofs.Strict.{transitive}
+use Rattle.laws.specs.Outcome.{is_first, turned}
+use Rattle.laws.proofs.Outcome.{is-first}
+use Rattle.laws.proofs.Compared.{outcome-turned}
+use Rattle.laws.proofs.Taken.{taken-sound}
+use Rattle.laws.proofs.Replied.{compared-reply, reply-self}
 use Rattle.theorems.specs.Strictly.{TermRecord}
 use Rattle.demands.specs.Given.{number_given, gives_same, gives_turned, gives_chained}
 use Rattle.demands.proofs.Numbered.{is_one}

@@ -20,11 +20,12 @@ use Rattle.laws.specs.Bools.{and_i, or_l, or_r, not-both, on-or-off}
 use Rattle.laws.specs.Members.{or_off}
 use Rattle.laws.specs.Search.{none-i}
 use Rattle.laws.specs.Masks.{equal_in-cells}
-use Rattle.laws.specs.Outcome.{is-first}
+use Rattle.laws.proofs.Outcome.{is-first}
 use Rattle.laws.specs.Query.{passed-reply, buffer-length, entry}
 use Rattle.laws.specs.AcceptedTable.{accepted-table}
-use Rattle.laws.specs.Taken.{Taken, taken-gives, taken-asked, taken-sound}
-use Rattle.laws.specs.Replied.{compared-reply}
+use Rattle.laws.specs.Taken.{Taken, taken-gives}
+use Rattle.laws.proofs.Taken.{taken-asked, taken-sound}
+use Rattle.laws.proofs.Replied.{compared-reply}
 use Rattle.rows.specs.Places.{row-length}
 use Rattle.demands.specs.Given.{number_given}
 use Rattle.demands.proofs.Numbered.{is_one}

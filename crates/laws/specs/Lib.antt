@@ -69,14 +69,11 @@ pub mod AcceptedTerms
 pub mod AcceptedNumbers
 pub mod AcceptedMarks
 pub mod Taken
-pub mod Replied
-pub mod Answered
 pub mod Agree
 pub mod Replaced
 pub mod Rejudged
 pub mod Rewritten
 pub mod Placings
-pub mod TwoParts
 pub mod Among
 pub mod Listed
 pub mod Elimination
@@ -84,7 +81,6 @@ pub mod Cases
 pub mod Rounds
 pub mod Meetings
 pub mod Beaten
-pub mod Beats
 pub mod Firsts
 pub mod Gone
 pub mod Named

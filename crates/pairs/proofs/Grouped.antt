@@ -12,10 +12,11 @@ use Rattle.model.specs.Better.{equal_in}
 use Rattle.model.specs.Compare.{outcome}
 use Rattle.model.specs.Query.{row_at, beats_in}
 use Rattle.laws.specs.Bools.{off, and_l}
-use Rattle.laws.specs.Taken.{TakenTerm, taken-sound}
+use Rattle.laws.specs.Taken.{TakenTerm}
+use Rattle.laws.proofs.Taken.{taken-sound}
 use Rattle.laws.specs.Codes.{code_of}
 use Rattle.rows.specs.Keys.{Keyed}
-use Rattle.laws.specs.Beats.{beats-one, beats-two}
+use Rattle.laws.proofs.Beats.{beats-one, beats-two}
 use Rattle.pairs.specs.GroupsPairs.{outcome_in, group_outcome}
 
 -- In different groups neither is better.

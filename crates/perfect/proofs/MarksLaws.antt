@@ -14,7 +14,8 @@ use Rattle.model.specs.Better.{Row, cell}
 use Rattle.model.specs.Perfect.{perfect}
 use Rattle.laws.specs.Accepted.{Accepted}
 use Rattle.laws.specs.AcceptedKinds.{accepted-joined, accepted-dual}
-use Rattle.laws.specs.AcceptedMarks.{base-perfect, base-odd, joined-perfect, dual-perfect}
+use Rattle.laws.specs.AcceptedMarks.{joined-perfect, dual-perfect}
+use Rattle.laws.proofs.AcceptedMarks.{base-perfect, base-odd}
 use Rattle.laws.specs.AcceptedTable.{accepted-table}
 use Rattle.laws.specs.Runs.{values_between}
 use Rattle.laws.specs.Fill.{fill_more}

@@ -20,11 +20,12 @@ use Rattle.model.specs.Term.{term_at}
 use Rattle.model.specs.Better.{Row}
 use Rattle.model.specs.Compare.{outcome}
 use Rattle.laws.specs.Bools.{on-or-off, and_l, and_r, and_i, or_cases}
-use Rattle.laws.specs.Codes.{code, code_below, joined_code, prior_code, turned_code, pair_code, dual-code}
+use Rattle.laws.specs.Codes.{code, code_below, joined_code, prior_code, turned_code}
+use Rattle.laws.proofs.Codes.{pair_code, dual-code}
 use Rattle.laws.specs.Accepted.{Accepted}
 use Rattle.laws.specs.AcceptedTable.{accepted-table}
 use Rattle.laws.specs.AcceptedKinds.{accepted-joined, accepted-dual}
-use Rattle.laws.specs.AcceptedTerms.{accepted-sound}
+use Rattle.laws.proofs.AcceptedTerms.{accepted-sound}
 use Rattle.plan.specs.Told.{told_code, bits, within, holds, turned_mask, part_mask, own_mask}
 use Rattle.plan.specs.Exits.{mask_at, tells_at, Exits, Exitable, PartsWithin, start_mask, pushed, left_pushed, dual_pushed, joined_pushed, record_pushed}
 use Rattle.plan.proofs.Bits.{implied, dual-tells, left-holds, part-holds, parts_within, own-cases, masks-low}

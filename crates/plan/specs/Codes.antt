@@ -11,12 +11,13 @@ use Rattle.model.specs.Better.{Row, cell}
 use Rattle.laws.specs.Sound.{sound_base, sound}
 use Rattle.laws.specs.Runs.{values_between}
 use Rattle.laws.specs.Outcome.{outcome-base}
-use Rattle.laws.specs.Codes.{code_of, code, joined_code, turned_code, pair_code, dual-code}
+use Rattle.laws.specs.Codes.{code_of, code, joined_code, turned_code}
+use Rattle.laws.proofs.Codes.{pair_code, dual-code}
 use Rattle.laws.specs.ValueCodes.{tests_code, value_code}
 use Rattle.laws.specs.Accepted.{Accepted}
 use Rattle.laws.specs.AcceptedTable.{accepted-table}
 use Rattle.laws.specs.AcceptedKinds.{AcceptedBase, accepted-base, accepted-joined, accepted-dual}
-use Rattle.laws.specs.AcceptedTerms.{accepted-sound}
+use Rattle.laws.proofs.AcceptedTerms.{accepted-sound}
 use Rattle.terms.specs.Prepared.{Run}
 
 module _ {table : List ℕ} {columns : ℕ} (ok : Accepted table columns) {k : ℕ} (below : k < record_count table) where

@@ -9,9 +9,10 @@ use Rattle.model.specs.Query.{row_count, fails_rows, beats_in}
 use Rattle.laws.specs.Members.{or_off}
 use Rattle.laws.specs.Order.{Strict}
 use Rattle.laws.specs.Rows.{beats-strict}
-use Rattle.laws.specs.Strict.{ordered}
+use Rattle.laws.proofs.Strict.{ordered}
 use Rattle.laws.specs.AcceptedTable.{accepted-table}
-use Rattle.laws.specs.Taken.{TakenTerm, Taken, taken-sound}
+use Rattle.laws.specs.Taken.{TakenTerm, Taken}
+use Rattle.laws.proofs.Taken.{taken-sound}
 use Rattle.terms.specs.Prepared.{Vetted}
 use Rattle.selection.specs.Selected.{AskedRows}
 

@@ -13,7 +13,8 @@ use Rattle.model.specs.Demand.{rewritten, left_first, right_first, equally}
 use Rattle.laws.specs.Accepted.{accepted-true}
 use Rattle.laws.specs.Agree.{same-record}
 use Rattle.laws.specs.Rewritten.{rewritten-same}
-use Rattle.laws.specs.Placings.{Placed, left-first, right-first, ranked-equally}
+use Rattle.laws.specs.Placings.{Placed}
+use Rattle.laws.proofs.Placings.{left-first, right-first, ranked-equally}
 use Rattle.theorems.specs.Asked.{AskedTwo, Long, Alike}
 use Rattle.theorems.specs.Dropped.{query-passes}
 use Rattle.theorems.specs.Placed.{ok, parts, of-record, whole}

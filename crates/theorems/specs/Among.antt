@@ -11,8 +11,9 @@ use Rattle.laws.specs.Columns.{columns-below, equal-cells}
 use Rattle.laws.specs.Select.{kept-unbeaten}
 use Rattle.laws.specs.Rows.{beats_among}
 use Rattle.laws.specs.Accepted.{accepted-true}
-use Rattle.laws.specs.AcceptedTerms.{accepted-term}
-use Rattle.laws.specs.Among.{group-or, keeps-among-by-query}
+use Rattle.laws.proofs.AcceptedTerms.{accepted-term}
+use Rattle.laws.specs.Among.{group-or}
+use Rattle.laws.proofs.Among.{keeps-among-by-query}
 use Rattle.theorems.specs.Strictly.{TermRecord}
 use Rattle.theorems.specs.Asked.{Asked, Long, KeepsAmong}
 use Rattle.theorems.specs.Dropped.{beaten-by, by-beaten, query-passes}

@@ -14,8 +14,8 @@ use Rattle.laws.specs.Columns.{equal-cells}
 use Rattle.laws.specs.Select.{kept-i, kept-e}
 use Rattle.laws.specs.Query.{keeps-kept}
 use Rattle.laws.specs.Accepted.{accepted-true}
-use Rattle.laws.specs.AcceptedTerms.{accepted-term}
-use Rattle.laws.specs.Taken.{taken-asked, taken-sound}
+use Rattle.laws.proofs.AcceptedTerms.{accepted-term}
+use Rattle.laws.proofs.Taken.{taken-asked, taken-sound}
 use Rattle.laws.specs.Cascade.{beats_after, chain-kept, chain-prior-group}
 use Rattle.theorems.specs.Asked.{Asked, AskedTwo, Long, BeatenBy}
 use Rattle.theorems.specs.Ordered.{taken}

@@ -8,7 +8,7 @@ use Rattle.model.specs.Demand.{keeps}
 use Rattle.laws.specs.Masks.{equal_in-cells}
 use Rattle.laws.specs.Rows.{beats-group, beats-better, beats-i}
 use Rattle.laws.specs.Taken.{Taken, taken-from}
-use Rattle.laws.specs.Answered.{keeps-unbeaten, drops-name-lowest}
+use Rattle.laws.proofs.Answered.{keeps-unbeaten, drops-name-lowest}
 use Rattle.theorems.specs.Asked.{Asked, Long, BeatenBy}
 use Rattle.theorems.specs.Ordered.{taken}
 

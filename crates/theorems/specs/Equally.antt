@@ -9,8 +9,8 @@ use Rattle.model.specs.Query.{row_count, beats_in}
 use Rattle.model.specs.Demand.{left_first, right_first, equally, keeps}
 use Rattle.laws.specs.Bools.{and_l, and_r, and_i, off}
 use Rattle.laws.specs.Search.{any-i, none-i}
-use Rattle.laws.specs.Answered.{keeps-unbeaten}
-use Rattle.laws.specs.TwoParts.{ranked-equally-keeps}
+use Rattle.laws.proofs.Answered.{keeps-unbeaten}
+use Rattle.laws.proofs.TwoParts.{ranked-equally-keeps}
 use Rattle.theorems.specs.Asked.{Asked, AskedTwo, Long, BeatenBy, Beaten, BeatenApart}
 use Rattle.theorems.specs.Dropped.{beaten-by, by-beaten, query-passes, dropped-beaten-by-kept}
 use Rattle.theorems.specs.Placed.{whole, left-placed, right-placed}

@@ -17,8 +17,9 @@ use Rattle.laws.specs.Search.{none-e}
 use Rattle.laws.specs.Masks.{equal_in-cells}
 use Rattle.laws.specs.Query.{refused-buffer}
 use Rattle.laws.specs.Accepted.{accepted-true}
-use Rattle.laws.specs.AcceptedTerms.{AcceptedTerm, accepted-term}
-use Rattle.laws.specs.Answered as answered
+use Rattle.laws.specs.AcceptedTerms.{AcceptedTerm}
+use Rattle.laws.proofs.AcceptedTerms.{accepted-term}
+use Rattle.laws.proofs.Answered as answered
 use Rattle.theorems.specs.Strictly.{TermRecord}
 use Rattle.theorems.specs.Asked.{Asked, Long, BeatenBy}
 use Rattle.theorems.specs.Unread as unread

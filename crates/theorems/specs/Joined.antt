@@ -10,7 +10,7 @@ use Rattle.model.specs.Term.{term_at, columns_of}
 use Rattle.model.specs.Query.{row_count, fails_group, query_buffer}
 use Rattle.model.specs.Demand.{left_first, right_first, equally, keeps}
 use Rattle.laws.specs.Bools.{and_l, and_r, and_i, off}
-use Rattle.laws.specs.Answered.{gives-and-writes}
+use Rattle.laws.proofs.Answered.{gives-and-writes}
 use Rattle.theorems.specs.Strictly.{TermRecord}
 use Rattle.theorems.specs.Asked.{Asked, AskedTwo, TwoParts, Long, BeatenBy, KeepsAmong, Alike}
 use Rattle.theorems.specs.Ordered as ordered

@@ -19,8 +19,8 @@ use Rattle.laws.specs.Answers.{answer-row}
 use Rattle.laws.specs.Rows.{beats-strict}
 use Rattle.laws.specs.Query as query
 use Rattle.laws.specs.AcceptedTable.{accepted-table}
-use Rattle.laws.specs.Strict.{ordered}
-use Rattle.laws.specs.Taken.{taken-asked, taken-sound}
+use Rattle.laws.proofs.Strict.{ordered}
+use Rattle.laws.proofs.Taken.{taken-asked, taken-sound}
 use Rattle.laws.specs.Renumbered.{old-is, new-of, old-rising}
 use Rattle.laws.specs.Leaving.{kept-left, count-kept-left, answer-is-left, answer-left, kept_in_own, rows_of_all, own-holds}
 use Rattle.laws.specs.LeftRows.{left-row, left-ext, whole-rows, rows_of, left-rows-length, left-rows-count}

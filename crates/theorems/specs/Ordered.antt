@@ -7,12 +7,13 @@ use Rattle.model.specs.Term.{term_at}
 use Rattle.model.specs.Better.{Row, better}
 use Rattle.model.specs.Compare.{outcome, compare_reply}
 use Rattle.laws.specs.Sound.{sound, within}
-use Rattle.laws.specs.Strict as strict
+use Rattle.laws.proofs.Strict as strict
 use Rattle.laws.specs.Outcome.{turned}
-use Rattle.laws.specs.Compared.{outcome-first}
+use Rattle.laws.proofs.Compared.{outcome-first}
 use Rattle.laws.specs.Accepted.{accepted-true}
-use Rattle.laws.specs.Taken.{TakenTerm, taken-sound}
-use Rattle.laws.specs.Replied.{compared-reply, reply-self, reply-turned, reply-chained}
+use Rattle.laws.specs.Taken.{TakenTerm}
+use Rattle.laws.proofs.Taken.{taken-sound}
+use Rattle.laws.proofs.Replied.{compared-reply, reply-self, reply-turned, reply-chained}
 use Rattle.theorems.specs.Strictly.{TermRecord}
 
 -- A term record of an accepted table is one that a call takes.

@@ -10,9 +10,10 @@ use Rattle.model.specs.Query.{row_count}
 use Rattle.model.specs.Demand.{accepted, left_first, right_first, equally, keeps}
 use Rattle.laws.specs.Accepted.{Accepted, accepted-true}
 use Rattle.laws.specs.AcceptedKinds.{AcceptedJoined}
-use Rattle.laws.specs.AcceptedTerms.{accepted-term}
-use Rattle.laws.specs.Placings.{two-parts, two-inside, left-first, right-first, ranked-equally}
-use Rattle.laws.specs.TwoParts.{placed-before-keeps}
+use Rattle.laws.proofs.AcceptedTerms.{accepted-term}
+use Rattle.laws.specs.Placings.{two-parts}
+use Rattle.laws.proofs.Placings.{two-inside, left-first, right-first, ranked-equally}
+use Rattle.laws.proofs.TwoParts.{placed-before-keeps}
 use Rattle.theorems.specs.Asked.{Asked, AskedTwo, TwoParts, Long}
 use Rattle.theorems.specs.Dropped.{query-passes}
 use Rattle.theorems.specs.Among.{second-by-group}

@@ -8,7 +8,8 @@ use Rattle.model.specs.Better.{EqualIn}
 use Rattle.model.specs.Query.{answer, row_count, row_at, beats_in, fails_rows, fails_short, query_verdict, query_reply, query_buffer}
 use Rattle.laws.specs.Fill.{fill-ext}
 use Rattle.laws.specs.Unread.{unread-cells}
-use Rattle.laws.specs.Taken.{taken-gives, taken-sound}
+use Rattle.laws.specs.Taken.{taken-gives}
+use Rattle.laws.proofs.Taken.{taken-sound}
 
 module _ (table : List ℕ) (columns : ℕ) (rows rows' : List ℤ) (term group : ℕ) (before : List ℕ)
     (long : length rows ≡ length rows')

@@ -1,6 +1,6 @@
 -- `theorems::accepted_terms`: proved in specs/Accepted and specs/AcceptedTerms of `laws`. Assumes nothing.
 use Rattle.laws.specs.Accepted.{accepted-true}
-use Rattle.laws.specs.AcceptedTerms.{accepted-term}
+use Rattle.laws.proofs.AcceptedTerms.{accepted-term}
 use Rattle.theorems.proofs.accepted_terms.Statement.{statement}
 use Rattle.theorems.proofs.accepted_terms.Tie as tie
 

@@ -2,8 +2,8 @@ use mathlib.Core.Path.{refl}
 use native.Mathlib.Nat.{le_antisymm}
 use native.Mathlib.Omega.{arith}
 use borrow.Author.Rules.{rules}
-use Rattle.laws.specs.Taken.{taken-sound}
-use Rattle.laws.specs.Strict.{ordered}
+use Rattle.laws.proofs.Taken.{taken-sound}
+use Rattle.laws.proofs.Strict.{ordered}
 use Rattle.laws.specs.Rows.{beats-strict}
 use Rattle.laws.specs.Rounds.{settled-of}
 use Rattle.direct.proofs.rounds.eliminate.Goals as goal

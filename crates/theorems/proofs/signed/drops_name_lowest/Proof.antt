@@ -1,5 +1,5 @@
 -- `theorems::signed::drops_name_lowest`: proved in specs/Answered of `laws`. Assumes nothing.
-use Rattle.laws.specs.Answered.{drops-name-lowest}
+use Rattle.laws.proofs.Answered.{drops-name-lowest}
 use Rattle.theorems.proofs.signed.drops_name_lowest.Statement.{statement}
 use Rattle.theorems.proofs.signed.drops_name_lowest.Tie as tie
 

@@ -1,5 +1,5 @@
 -- `theorems::signed::gives_and_writes`: proved in specs/Answered of `laws`. Assumes nothing.
-use Rattle.laws.specs.Answered.{gives-and-writes}
+use Rattle.laws.proofs.Answered.{gives-and-writes}
 use Rattle.theorems.proofs.signed.gives_and_writes.Statement.{statement}
 use Rattle.theorems.proofs.signed.gives_and_writes.Tie as tie
 

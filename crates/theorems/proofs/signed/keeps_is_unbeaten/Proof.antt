@@ -1,5 +1,5 @@
 -- `theorems::signed::keeps_is_unbeaten`: proved in specs/Answered of `laws`. Assumes nothing.
-use Rattle.laws.specs.Answered.{keeps-unbeaten}
+use Rattle.laws.proofs.Answered.{keeps-unbeaten}
 use Rattle.theorems.proofs.signed.keeps_is_unbeaten.Statement.{statement}
 use Rattle.theorems.proofs.signed.keeps_is_unbeaten.Tie as tie
 

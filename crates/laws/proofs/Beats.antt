@@ -10,7 +10,8 @@ use Rattle.model.specs.Compare.{outcome}
 use Rattle.model.specs.Query.{row_at, beats_in}
 use Rattle.laws.specs.Sound.{sound, within}
 use Rattle.laws.specs.Masks.{equal_in-comm}
-use Rattle.laws.specs.Outcome.{is_first, is_second, is-first, is-second}
+use Rattle.laws.specs.Outcome.{is_first, is_second}
+use Rattle.laws.proofs.Outcome.{is-first, is-second}
 use Rattle.laws.specs.Codes.{code, code_of}
 
 -- First better is code 1,

@@ -13,9 +13,11 @@ use Rattle.model.specs.Demand.{left_first, right_first, equally, keeps, keeps_am
 use Rattle.laws.specs.Query.{Asked, prior-keeps, pareto-keeps}
 use Rattle.laws.specs.Accepted.{Accepted}
 use Rattle.laws.specs.AcceptedKinds.{AcceptedJoined}
-use Rattle.laws.specs.AcceptedTerms.{accepted-term}
-use Rattle.laws.specs.Taken.{Taken, taken-gives, taken-asked}
-use Rattle.laws.specs.Placings.{TwoParts, Placed, two-parts, left-first, right-first, ranked-equally}
+use Rattle.laws.proofs.AcceptedTerms.{accepted-term}
+use Rattle.laws.specs.Taken.{Taken, taken-gives}
+use Rattle.laws.proofs.Taken.{taken-asked}
+use Rattle.laws.specs.Placings.{TwoParts, Placed, two-parts}
+use Rattle.laws.proofs.Placings.{left-first, right-first, ranked-equally}
 
 module _ (table : List ℕ) (columns : ℕ) (rows : List ℤ) (k group : ℕ) (before : List ℕ)
     (passed : query_verdict table columns rows k group before ≡ Verdict.Passed) (two : TwoParts (kind_at table k)) where

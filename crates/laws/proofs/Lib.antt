@@ -1,0 +1,15 @@
+pub mod AcceptedMarks
+pub mod AcceptedTerms
+pub mod Among
+pub mod Answered
+pub mod Beats
+pub mod Codes
+pub mod Compared
+pub mod Decomposition
+pub mod Outcome
+pub mod Placings
+pub mod Replied
+pub mod Report
+pub mod Strict
+pub mod Taken
+pub mod TwoParts
