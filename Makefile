@@ -34,9 +34,10 @@ demo: ## prove and build pick, run it on examples/motors and show which motors a
 test: ## prove everything from nothing, try the edits that must fail, run all tests (.ci/run)
 	@.ci/run
 
+# For every x86-64 processor: rt's own default asks for a newer one.
 archive: ## prove the library and write target/staticlib/libfinialbasil.a
 	@mkdir -p target
-	@$(call proved,lib,finialbasil,archive.out)
+	@$(call proved,lib --cpu x86-64,finialbasil,archive.out)
 	@install -D -m 644 crates/finialbasil/out/libfinialbasil.a $(archive)
 
 # The names that the header declares are exported and no others. It needs the C library alone, which `-z defs` sees to.
