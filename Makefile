@@ -17,27 +17,28 @@ documents := docs/SPECIFICATION.md docs/PROMISES.md docs/TRUST.md
 PREFIX ?= /usr/local
 docdir ?= $(PREFIX)/share/doc/finialbasil
 
-# Checks run in batches, and a batch ends with its slowest: five at a time keep two processors busy.
-export RT_JOBS ?= 5
-
-# What rt says of each crate that it proves; all that it prints is in the file named.
-said = 2>&1 | tee $(1) | sed -un '/^rt: /{/(unchanged since/!p}' || { tail -n 20 $(1); exit 1; }
+# Proves and builds crates/$(2) by `rt $(1)`. Shown is what rt says of each crate; all that it prints is in target/$(3).
+proved = (cd crates/$(2) && rt $(1) </dev/null) 2>&1 | tee target/$(3) | sed -un '/^rt: /p' || \
+    { tail -n 20 target/$(3); exit 1; }
 
 help: ## this list
 	@sed -n 's/^\([a-z]*\): .*## \(.*\)/  make \1\t\2/p' $(MAKEFILE_LIST) | expand -t 16
 
 demo: ## prove and build pick, run it on examples/motors and show which motors are kept
 	@mkdir -p target
-	@echo "Proving pick and what it rests on: some five minutes from a fresh checkout, seconds after that."
-	@.ci/in-memory rt check pick $(call said,target/pick.out)
+	@echo "Proving pick and what it rests on: some minutes from a fresh checkout, seconds after that."
+	@$(call proved,run,pick,pick.out)
+	@install -D crates/pick/out/pick target/bin/pick
 	@examples/motors/show
 
 test: ## prove everything from nothing, try the edits that must fail, run all tests (.ci/run)
 	@.ci/run
 
+# For every x86-64 processor: rt's own default asks for a newer one.
 archive: ## prove the library and write target/staticlib/libfinialbasil.a
 	@mkdir -p target
-	@.ci/in-memory rt staticlib finialbasil $(call said,target/staticlib.out)
+	@$(call proved,lib --cpu x86-64,finialbasil,archive.out)
+	@install -D -m 644 crates/finialbasil/out/libfinialbasil.a $(archive)
 
 # The names that the header declares are exported and no others. It needs the C library alone, which `-z defs` sees to.
 shared: archive ## link the archive as target/shared/libfinialbasil.so.VERSION
