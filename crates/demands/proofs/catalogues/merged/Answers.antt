@@ -73,7 +73,7 @@ returns-in-Kept c =
       said.0,
       e.1,
       said.1,
-      λ ok low is rows_fit group-fits long room. said.0
+      λ ok low is rows_fit group-fits long space. said.0
           ∙ merges-holds a.table.now a.columns a.rows.now a.split a.term a.group
           a.answers.now a.again.now
           (record {
@@ -81,5 +81,5 @@ returns-in-Kept c =
             rows_fit = rows_fit;
             group_fits = group-fits;
           })
-          long room,
+          long space,
     )

@@ -70,7 +70,7 @@ returns-in-Kept c =
       said.0,
       e.1,
       said.1,
-      λ ok low is rows_fit group-fits long room. said.0
+      λ ok low is rows_fit group-fits long space. said.0
           ∙ left-out-holds a.table.now a.columns a.rows.now a.term a.group a.out.now
           a.answers.now a.again.now
           (record {
@@ -78,5 +78,5 @@ returns-in-Kept c =
             rows_fit = rows_fit;
             group_fits = group-fits;
           })
-          long room,
+          long space,
     )
