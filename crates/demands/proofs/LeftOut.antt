@@ -22,8 +22,9 @@ use Rattle.laws.specs.Query as query
 use Rattle.laws.specs.LeftRows.{rows_of, left-rows-count}
 use Rattle.theorems.specs.Asked.{Asked, Long}
 use Rattle.theorems.specs.LeftOut.{SameAnswers}
-use Rattle.theorems.specs.Leaving.{some-column, rows_whole, rows_few, asked_of, query-asked, leaving-out}
-use Rattle.theorems.specs.Merged.{kept-in-own}
+use Rattle.theorems.specs.Leaving.{some-column, rows_whole, rows_few, asked_of}
+use Rattle.theorems.proofs.LeavingLaws.{query-asked, leaving-out}
+use Rattle.theorems.proofs.Merged.{kept-in-own}
 use Rattle.demands.specs.Leaving.{same_entry, same_by_number, same_answers, same_twice}
 use Rattle.demands.specs.Leaving.{spared, left_out, first_count, kept_by_split, merges}
 

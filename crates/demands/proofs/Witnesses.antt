@@ -30,7 +30,7 @@ use Rattle.rows.specs.Places.{row-length}
 use Rattle.demands.specs.Given.{number_given}
 use Rattle.demands.proofs.Numbered.{is_one}
 use Rattle.theorems.specs.Asked.{Asked, Long, BeatenBy}
-use Rattle.theorems.specs.Dropped.{query-takes, dropped-beaten-by-kept}
+use Rattle.theorems.proofs.Dropped.{query-takes, dropped-beaten-by-kept}
 use Rattle.demands.specs.Witness.{Answers, is_witness, witnessed, all_witnessed, where_kept, query_witnessed, beaten_by_kept}
 
 -- A reply refuses or it does not.

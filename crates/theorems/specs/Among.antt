@@ -1,11 +1,11 @@
 -- "Keeps among the rows equal in the first's columns" in words, as a test and as a query (SPECIFICATION, "The third
 -- promise, word by word"). Assumes nothing.
-use Rattle.std.specs.Prelude.{◌≡◌, ◌↔◌, true, List, ℕ, ◌<◌, ℤ}
+use Rattle.std.specs.Prelude.{◌≡◌, ◌↔◌, true, List, ℕ, ℤ}
 use Rattle.std.specs.Int.Bits.{bit_or}
 use Rattle.model.specs.Term.{Term, term_at, columns_of}
 use Rattle.model.specs.Better.{equal}
 use Rattle.model.specs.Query.{row_count, row_at, beats_in}
-use Rattle.model.specs.Demand.{keeps, keeps_among}
+use Rattle.model.specs.Demand.{keeps_among}
 use Rattle.laws.specs.Bools.{and_l, and_r, and_i}
 use Rattle.laws.specs.Columns.{columns-below, equal-cells}
 use Rattle.laws.specs.Select.{kept-unbeaten}
@@ -13,10 +13,9 @@ use Rattle.laws.specs.Rows.{beats_among}
 use Rattle.laws.specs.Accepted.{accepted-true}
 use Rattle.laws.proofs.AcceptedTerms.{accepted-term}
 use Rattle.laws.specs.Among.{group-or}
-use Rattle.laws.proofs.Among.{keeps-among-by-query}
 use Rattle.theorems.specs.Strictly.{TermRecord}
-use Rattle.theorems.specs.Asked.{Asked, Long, KeepsAmong}
-use Rattle.theorems.specs.Dropped.{beaten-by, by-beaten, query-passes}
+use Rattle.theorems.specs.Asked.{Asked, KeepsAmong}
+use Rattle.theorems.specs.Dropped.{beaten-by, by-beaten}
 
 module _ (table : List ℕ) (columns : ℕ) (rows : List ℤ) (first second group i : ℕ) where
   abbrev l : Term
@@ -52,16 +51,3 @@ wider-asked table columns rows first second group t asked =
           ).is_within)
           asked.group_fits;
     }
-
--- Query on the second gives it when the bits of those columns are set in the group byte too.
-pub second-by-group : (table : List ℕ) (columns : ℕ) (rows : List ℤ) (first second group : ℕ)
-    → TermRecord table columns first → Asked table columns rows second group
-    → (i : ℕ) → i < row_count columns rows → (before : List ℕ) → Long columns rows before
-    → (keeps_among table columns rows first second group i
-    ≡ keeps table columns rows second (bit_or group (columns_of (term_at table first))) before i)
-    × ((keeps_among table columns rows first second group i ≡ true) ↔ KeepsAmong table columns rows first second group i)
-second-by-group table columns rows first second group t asked i h before long = (
-  keeps-among-by-query table columns rows first second group before
-      (query-passes table columns rows second group asked before long) t.below t.is_record i h,
-  among-words table columns rows first second group i,
-)

@@ -5,12 +5,12 @@ use Rattle.std.proofs.Common.{arith}
 use Rattle.std.proofs.lemmas.Bool.{not-false}
 use Rattle.model.specs.declared.{Refusal.Refusal, Verdict.Verdict, QueryReply.QueryReply}
 use Rattle.model.specs.Search.{any_below, count_below}
-use Rattle.model.specs.Record.{record_count, record_at, kind_at, is_term, p_at, q_at}
+use Rattle.model.specs.Record.{record_count, record_at, is_term}
 use Rattle.model.specs.Term.{Term, term_at, columns_of}
 use Rattle.model.specs.Better.{Row, equal_in, EqualIn}
 use Rattle.model.specs.Query.{Unbeaten, LowestKept, row_count, row_at, beats_in, fails_rows, fails_group}
 use Rattle.model.specs.Query.{query_verdict, query_reply, query_buffer}
-use Rattle.model.specs.Demand.{is_chain, accepted, right_first, keeps}
+use Rattle.model.specs.Demand.{accepted, keeps}
 use Rattle.model.specs.cases.Opened.{opened}
 use Rattle.model.specs.cases.Tables.{minus, T1, rows_v}
 use Rattle.laws.specs.Search.{none-e}
@@ -21,15 +21,14 @@ use Rattle.laws.specs.AcceptedTerms.{AcceptedTerm}
 use Rattle.laws.proofs.AcceptedTerms.{accepted-term}
 use Rattle.laws.proofs.Answered as answered
 use Rattle.theorems.specs.Strictly.{TermRecord}
-use Rattle.theorems.specs.Asked.{Asked, Long, BeatenBy}
+use Rattle.theorems.specs.Asked.{Long}
 use Rattle.theorems.specs.Unread as unread
-use Rattle.theorems.specs.Cascade as cascade
 
 -- Record k's term of T1: 0 AROUND, 1 LOWEST, 2 PARETO 0 1, 3 HIGHEST, 4 PARETO 2 3. Row i of V. A buffer for seven rows.
-abbrev T : ℕ → Term
+abbrev pub T : ℕ → Term
 T k = term_at T1 k
 
-abbrev row : ℕ → Row
+abbrev pub row : ℕ → Row
 row i = row_at 3 rows_v i
 
 abbrev pub seven : List ℕ
@@ -66,9 +65,6 @@ lowest = record { is_accepted = T1-accepted; below = omega (arith, five-records)
 
 pub top : TermRecord T1 3 4
 top = record { is_accepted = T1-accepted; below = omega (arith, five-records); is_record = terms.1 }
-
-lowest-asked : Asked T1 3 rows_v 1 0
-lowest-asked = record { of_term = lowest; rows_fit = rows_fit; group_fits = group-fits }
 
 pub long : Long 3 rows_v seven
 long = omega (arith, seven-rows)
@@ -143,56 +139,3 @@ pub unread-columns : (query_reply T1 3 rows_v 1 1 seven ≡ query_reply T1 3 cha
 unread-columns =
     unread.unread-columns T1 3 rows_v changed 1 1 seven refl (agree-in (columns_of (T 1)) term-agrees)
     (agree-in 1 group-agrees)
-
--- ---- chains
-
--- LOWEST is a chain, and keeps rows 4 and 5.
-lowest-chain : is_chain (T 1) ≡ true
-unfolding opened
-lowest-chain = refl
-
-four-and-five : (keeps T1 3 rows_v 1 0 seven 4 ≡ true) × (keeps T1 3 rows_v 1 0 seven 5 ≡ true)
-unfolding opened
-four-and-five = (refl, refl)
-
-pub chain-keeps-equal : EqualIn (columns_of (T 1)) (row 4) (row 5)
-chain-keeps-equal =
-    cascade.chain-keeps-equal T1 3 rows_v 1 lowest-asked lowest-chain seven long 4 5 (omega (arith, seven-rows))
-    (omega (arith, seven-rows)) four-and-five.0 four-and-five.1
-
--- The placing of record 2 with LOWEST first, which is PRIOR 1 0: its left part is that chain.
-abbrev P : List ℕ
-P = right_first T1 2
-
-P-accepted : accepted P 3 ≡ true
-unfolding opened
-P-accepted = refl
-
-P-records : record_count P ≡ 5
-unfolding opened
-P-records = refl
-
-P-record : is_term (record_at P 2) ≡ true
-unfolding opened
-P-record = refl
-
-P-prior : kind_at P 2 ≡ 17
-unfolding opened
-P-prior = refl
-
-P-chain : is_chain (term_at P (p_at P 2)) ≡ true
-unfolding opened
-P-chain = refl
-
-P-asked : Asked P 3 rows_v 2 0
-P-asked =
-    record {
-      of_term = record { is_accepted = P-accepted; below = omega (arith, P-records); is_record = P-record };
-      rows_fit = rows_fit;
-      group_fits = group-fits;
-    }
-
-pub chain-prior : (keeps P 3 rows_v 2 0 seven 4 ≡ true)
-    ↔ ((keeps P 3 rows_v (p_at P 2) 0 seven 4 ≡ true)
-    × ((j : ℕ) → keeps P 3 rows_v (p_at P 2) 0 seven j ≡ true → BeatenBy P 3 rows_v (q_at P 2) 0 4 j → ⊥))
-chain-prior = cascade.chain-prior P 3 rows_v 2 0 P-asked P-prior P-chain seven seven long long 4 (omega (arith, seven-rows))

@@ -7,16 +7,9 @@ pub mod ThirdSentence
 pub mod Ordered
 pub mod Dropped
 pub mod Among
-pub mod Placed
-pub mod Alone
-pub mod Equally
-pub mod Joined
 pub mod ThirdClause
 pub mod Unread
 pub mod LeftOut
 pub mod Leaving
-pub mod Merged
-pub mod Cascade
 pub mod Instances
 pub mod InstancesOfThird
-pub mod InstancesOfLeaving

@@ -1,5 +1,5 @@
 -- `theorems::chain_cascade`: proved in specs/Cascade. Assumes nothing.
-use Rattle.theorems.specs.Cascade.{chain-keeps-equal, chain-prior}
+use Rattle.theorems.proofs.Cascade.{chain-keeps-equal, chain-prior}
 use Rattle.theorems.proofs.chain_cascade.Statement.{statement}
 use Rattle.theorems.proofs.chain_cascade.Tie as tie
 

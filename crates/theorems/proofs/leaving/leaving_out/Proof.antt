@@ -1,5 +1,5 @@
 -- `theorems::leaving::leaving_out`: proved in specs/Leaving. Assumes nothing.
-use Rattle.theorems.specs.Leaving.{leaving-out}
+use Rattle.theorems.proofs.LeavingLaws.{leaving-out}
 use Rattle.theorems.proofs.leaving.leaving_out.Statement.{statement}
 use Rattle.theorems.proofs.leaving.leaving_out.Tie as tie
 

@@ -1,5 +1,5 @@
 -- `theorems::leaving::leaving_out_any`: proved in specs/Leaving. Assumes nothing.
-use Rattle.theorems.specs.Leaving.{left-out-of}
+use Rattle.theorems.proofs.LeavingLaws.{left-out-of}
 use Rattle.theorems.proofs.leaving.leaving_out_any.Statement.{statement}
 use Rattle.theorems.proofs.leaving.leaving_out_any.Tie as tie
 

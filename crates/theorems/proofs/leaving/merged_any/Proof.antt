@@ -1,6 +1,6 @@
 -- `theorems::leaving::merged_any`: proved in specs/Leaving, and in specs/Catalogues of `laws`. Assumes nothing.
 use Rattle.laws.specs.Catalogues.{merge-all}
-use Rattle.theorems.specs.Leaving.{merged-of}
+use Rattle.theorems.proofs.LeavingLaws.{merged-of}
 use Rattle.theorems.proofs.leaving.merged_any.Statement.{statement}
 use Rattle.theorems.proofs.leaving.merged_any.Tie as tie
 

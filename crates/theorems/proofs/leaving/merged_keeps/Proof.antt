@@ -1,5 +1,5 @@
 -- `theorems::leaving::merged_keeps`: proved in specs/Merged. Assumes nothing.
-use Rattle.theorems.specs.Merged.{merged_keeps}
+use Rattle.theorems.proofs.Merged.{merged_keeps}
 use Rattle.theorems.proofs.leaving.merged_keeps.Statement.{statement}
 use Rattle.theorems.proofs.leaving.merged_keeps.Tie as tie
 

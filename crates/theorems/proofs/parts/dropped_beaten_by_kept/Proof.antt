@@ -1,5 +1,5 @@
 -- `theorems::parts::dropped_beaten_by_kept`: proved in specs/Dropped. Assumes nothing.
-use Rattle.theorems.specs.Dropped.{dropped-beaten-by-kept}
+use Rattle.theorems.proofs.Dropped.{dropped-beaten-by-kept}
 use Rattle.theorems.proofs.parts.dropped_beaten_by_kept.Statement.{statement}
 use Rattle.theorems.proofs.parts.dropped_beaten_by_kept.Tie as tie
 

@@ -1,5 +1,5 @@
 -- `theorems::parts::pareto_keeps`: proved in specs/Equally. Assumes nothing.
-use Rattle.theorems.specs.Equally.{pareto-keeps}
+use Rattle.theorems.proofs.Equally.{pareto-keeps}
 use Rattle.theorems.proofs.parts.pareto_keeps.Statement.{statement}
 use Rattle.theorems.proofs.parts.pareto_keeps.Tie as tie
 

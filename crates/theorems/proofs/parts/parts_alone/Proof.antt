@@ -1,5 +1,5 @@
 -- `theorems::parts::parts_alone`: proved in specs/Alone. Assumes nothing.
-use Rattle.theorems.specs.Alone.{parts-alone}
+use Rattle.theorems.proofs.Alone.{parts-alone}
 use Rattle.theorems.proofs.parts.parts_alone.Statement.{statement}
 use Rattle.theorems.proofs.parts.parts_alone.Tie as tie
 

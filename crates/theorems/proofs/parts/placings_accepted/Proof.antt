@@ -1,5 +1,5 @@
 -- `theorems::parts::placings_accepted`: proved in specs/Placed. Assumes nothing.
-use Rattle.theorems.specs.Placed.{placings-accepted}
+use Rattle.theorems.proofs.Placed.{placings-accepted}
 use Rattle.theorems.proofs.parts.placings_accepted.Statement.{statement}
 use Rattle.theorems.proofs.parts.placings_accepted.Tie as tie
 

@@ -1,5 +1,5 @@
 -- `theorems::parts::prior_keeps`: proved in specs/Placed. Assumes nothing.
-use Rattle.theorems.specs.Placed.{prior-keeps}
+use Rattle.theorems.proofs.Placed.{prior-keeps}
 use Rattle.theorems.proofs.parts.prior_keeps.Statement.{statement}
 use Rattle.theorems.proofs.parts.prior_keeps.Tie as tie
 

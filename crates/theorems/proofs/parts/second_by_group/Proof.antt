@@ -1,5 +1,5 @@
 -- `theorems::parts::second_by_group`: proved in specs/Among. Assumes nothing.
-use Rattle.theorems.specs.Among.{second-by-group}
+use Rattle.theorems.proofs.Among.{second-by-group}
 use Rattle.theorems.proofs.parts.second_by_group.Statement.{statement}
 use Rattle.theorems.proofs.parts.second_by_group.Tie as tie
 

@@ -1,5 +1,5 @@
 -- `theorems::signed::third_sentence`: proved in specs/Joined. Assumes nothing.
-use Rattle.theorems.specs.Joined.{third-sentence}
+use Rattle.theorems.proofs.Joined.{third-sentence}
 use Rattle.theorems.proofs.signed.third_sentence.Statement.{statement}
 use Rattle.theorems.proofs.signed.third_sentence.Tie as tie
 

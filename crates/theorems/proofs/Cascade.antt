@@ -19,8 +19,9 @@ use Rattle.laws.proofs.Taken.{taken-asked, taken-sound}
 use Rattle.laws.specs.Cascade.{beats_after, chain-kept, chain-prior-group}
 use Rattle.theorems.specs.Asked.{Asked, AskedTwo, Long, BeatenBy}
 use Rattle.theorems.specs.Ordered.{taken}
-use Rattle.theorems.specs.Dropped.{beaten-by, by-beaten, query-takes}
-use Rattle.theorems.specs.Placed.{left-part}
+use Rattle.theorems.specs.Dropped.{beaten-by, by-beaten}
+use Rattle.theorems.proofs.Dropped.{query-takes}
+use Rattle.theorems.proofs.Placed.{left-part}
 
 -- What Query keeps is what the term keeps.
 kept_by : (table : List ℕ) (columns : ℕ) (rows : List ℤ) (term group : ℕ) → Asked table columns rows term group

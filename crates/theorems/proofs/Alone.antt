@@ -16,8 +16,8 @@ use Rattle.laws.specs.Rewritten.{rewritten-same}
 use Rattle.laws.specs.Placings.{Placed}
 use Rattle.laws.proofs.Placings.{left-first, right-first, ranked-equally}
 use Rattle.theorems.specs.Asked.{AskedTwo, Long, Alike}
-use Rattle.theorems.specs.Dropped.{query-passes}
-use Rattle.theorems.specs.Placed.{ok, parts, of-record, whole}
+use Rattle.theorems.proofs.Dropped.{query-passes}
+use Rattle.theorems.proofs.Placed.{ok, parts, of-record, whole}
 
 module _ (table : List ℕ) (columns : ℕ) (rows : List ℤ) (k group : ℕ) (asked : AskedTwo table columns rows k group)
     (before : List ℕ) (long : Long columns rows before) where

@@ -12,8 +12,9 @@ use Rattle.laws.specs.Search.{any-i, none-i}
 use Rattle.laws.proofs.Answered.{keeps-unbeaten}
 use Rattle.laws.proofs.TwoParts.{ranked-equally-keeps}
 use Rattle.theorems.specs.Asked.{Asked, AskedTwo, Long, BeatenBy, Beaten, BeatenApart}
-use Rattle.theorems.specs.Dropped.{beaten-by, by-beaten, query-passes, dropped-beaten-by-kept}
-use Rattle.theorems.specs.Placed.{whole, left-placed, right-placed}
+use Rattle.theorems.specs.Dropped.{beaten-by, by-beaten}
+use Rattle.theorems.proofs.Dropped.{query-passes, dropped-beaten-by-kept}
+use Rattle.theorems.proofs.Placed.{whole, left-placed, right-placed}
 
 -- When the tests of the law pass.
 cases : (l r both : Bool) → (((l || r) || ((not l && not r) && not both)) ≡ true)

@@ -15,8 +15,8 @@ use Rattle.laws.specs.Placings.{two-parts}
 use Rattle.laws.proofs.Placings.{two-inside, left-first, right-first, ranked-equally}
 use Rattle.laws.proofs.TwoParts.{placed-before-keeps}
 use Rattle.theorems.specs.Asked.{Asked, AskedTwo, TwoParts, Long}
-use Rattle.theorems.specs.Dropped.{query-passes}
-use Rattle.theorems.specs.Among.{second-by-group}
+use Rattle.theorems.proofs.Dropped.{query-passes}
+use Rattle.theorems.proofs.Among.{second-by-group}
 
 -- Check accepts each of the three, with the reply that the table itself gets.
 pub placings-accepted : (table : List ℕ) (columns : ℕ) → accepted table columns ≡ true → (k : ℕ) → TwoParts table k

@@ -19,8 +19,8 @@ use Rattle.laws.specs.Merged.{worse_in}
 use Rattle.laws.specs.Catalogues.{kept_of_run, joined, kept_of_each_run, merge-all}
 use Rattle.theorems.specs.Asked.{Asked}
 use Rattle.theorems.specs.LeftOut.{SameAnswers, SameAnswersOf, together, kept_apart}
-use Rattle.theorems.specs.Leaving.{query-asked, order-strict, kept-rows-order, leaving-out, left-out-of, merged-of}
-use Rattle.theorems.specs.Merged.{merged_keeps}
+use Rattle.theorems.proofs.LeavingLaws.{query-asked, order-strict, kept-rows-order, leaving-out, left-out-of, merged-of}
+use Rattle.theorems.proofs.Merged.{merged_keeps}
 use Rattle.theorems.specs.Instances.{seven, rows_fit, group-fits, long, lowest, top}
 
 -- Every kept row stays, by a test that is computed.

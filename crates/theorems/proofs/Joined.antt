@@ -14,12 +14,13 @@ use Rattle.laws.proofs.Answered.{gives-and-writes}
 use Rattle.theorems.specs.Strictly.{TermRecord}
 use Rattle.theorems.specs.Asked.{Asked, AskedTwo, TwoParts, Long, BeatenBy, KeepsAmong, Alike}
 use Rattle.theorems.specs.Ordered as ordered
-use Rattle.theorems.specs.Dropped.{query-passes, dropped-beaten-by-kept}
-use Rattle.theorems.specs.Among.{wider-asked, second-by-group}
-use Rattle.theorems.specs.Placed.{placings-accepted, left-part, right-part, left-placed, right-placed, even-placed}
-use Rattle.theorems.specs.Placed.{prior-keeps}
-use Rattle.theorems.specs.Alone.{parts-alone}
-use Rattle.theorems.specs.Equally.{pareto-keeps}
+use Rattle.theorems.proofs.Dropped.{query-passes, dropped-beaten-by-kept}
+use Rattle.theorems.specs.Among.{wider-asked}
+use Rattle.theorems.proofs.Among.{second-by-group}
+use Rattle.theorems.proofs.Placed.{placings-accepted, left-part, right-part, left-placed, right-placed, even-placed}
+use Rattle.theorems.proofs.Placed.{prior-keeps}
+use Rattle.theorems.proofs.Alone.{parts-alone}
+use Rattle.theorems.proofs.Equally.{pareto-keeps}
 use Rattle.theorems.specs.ThirdSentence.{Wrote, Keeps, Drops, PlacedBefore, WroteAlike, OfTwoParts, ThirdSentence}
 use Rattle.theorems.specs.ThirdSentence.{Answers, PartsAnswer}
 

@@ -14,7 +14,8 @@ use Rattle.laws.specs.LeftRows.{left-ext, rows_of, append-rows}
 use Rattle.laws.specs.Merged.{beats_over, apart, apart-holds, apart-rows}
 use Rattle.theorems.specs.Asked.{Asked, Long}
 use Rattle.theorems.specs.LeftOut.{SameAnswers, together, kept_apart}
-use Rattle.theorems.specs.Leaving.{some-column, rows_whole, asked_of, order, order-strict, keeps-order, leaving-out}
+use Rattle.theorems.specs.Leaving.{some-column, rows_whole, asked_of}
+use Rattle.theorems.proofs.LeavingLaws.{order, order-strict, keeps-order, leaving-out}
 
 module _ (table : List ℕ) (columns : ℕ) (first second : List ℤ) (term group : ℕ)
     (asked : Asked table columns first term group) (asked' : Asked table columns second term group)

@@ -1,0 +1,12 @@
+pub mod Alone
+pub mod Among
+pub mod Cascade
+pub mod Dropped
+pub mod Equally
+pub mod Instances
+pub mod InstancesOfLeaving
+pub mod InstancesOfThird
+pub mod Joined
+pub mod LeavingLaws
+pub mod Merged
+pub mod Placed
