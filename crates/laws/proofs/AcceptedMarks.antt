@@ -1,5 +1,6 @@
 -- The perfect marks of an accepted table's terms (SPECIFICATION, "Perfect"): of a base term by its kind, of a compound
 -- from its parts' marks, with DUAL's exchanged, where the table is a run of bytes. Assumes nothing.
+-- What a reader or a contract cites stands in specs/AcceptedMarks.
 use Rattle.std.specs.Prelude.{◌≡◌, true, false, List, ℕ, ◌<◌}
 use Rattle.std.proofs.Common.{ap}
 use Rattle.model.specs.declared.{Record.Record, BaseTerm.BaseTerm}

@@ -1,5 +1,6 @@
 -- The terms of an accepted table (SPECIFICATION, "The table", "What a call refuses") are sound and over the columns;
 -- what else acceptance says goes by their kinds. Assumes nothing.
+-- What a reader or a contract cites stands in specs/AcceptedTerms.
 use Rattle.std.specs.Prelude.{◌≡◌, true, List, ℕ, ◌<◌, eqb}
 use Rattle.std.proofs.Math.Path.{refl}
 use Rattle.std.proofs.Common.{ap, arith, pow_mono}

@@ -1,5 +1,6 @@
 -- "Keeps among the rows equal in the first's columns" by Query on the second (SPECIFICATION, "The third promise, word
 -- by word"). Assumes nothing.
+-- What a reader or a contract cites stands in specs/Among.
 use Rattle.std.specs.Prelude.{◌≡◌, true, List, ℕ, ◌<◌, ℤ}
 use Rattle.std.proofs.Common.{sym, ◌∙◌}
 use Rattle.std.specs.Int.Bits.{bit_or}

@@ -1,6 +1,7 @@
 -- Outcomes as codes (SPECIFICATION, "Compare"): same 0, first better 1, second better 2, unranked 3. PARETO's code is
 -- the bitwise or of its parts' codes, BOTH's too, PRIOR's is the left's unless that is 0, and DUAL changes 1 and 2.
 -- Assumes nothing.
+-- What a reader or a contract cites stands in specs/Codes.
 use Rattle.std.specs.Prelude.{◌≡◌, refl, true, cond}
 use Rattle.std.proofs.Common.{◌∙◌, ap}
 use Rattle.std.specs.Int.Bits.{bit_or}

@@ -1,5 +1,6 @@
 -- What the third promise says of Compare's replies ("strictly", SPECIFICATION, "The third promise, word by word"), and
 -- that only the term's columns matter to them. Assumes nothing.
+-- What a reader or a contract cites stands in specs/Compared.
 use Rattle.std.specs.Prelude.{◌≡◌, refl, ◌↔◌, true}
 use Rattle.std.proofs.Common.{sym, ◌∙◌, ap}
 use Rattle.std.proofs.lemmas.Bool.{false≢true}

@@ -1,5 +1,6 @@
 -- The report's decompositions (section 4.2), as theorems about `better`: Proposition 4, "discrimination" of
 -- PRIOR; Proposition 5, "non-discrimination" of PARETO; Proposition 6. Assumes nothing.
+-- What a reader or a contract cites stands in specs/Decomposition.
 use Rattle.std.specs.Prelude.{◌≡◌, refl, true}
 use Rattle.std.proofs.Common.{sym, ◌∙◌}
 use Rattle.std.proofs.Math.Bool.{or-false}

@@ -1,5 +1,6 @@
 -- What a comparison gives (SPECIFICATION, "Compare"), and how a compound's outcome follows from its parts' outcomes.
 -- Assumes nothing.
+-- What a reader or a contract cites stands in specs/Outcome.
 use Rattle.std.specs.Prelude.{◌≡◌, refl, Bool, true, false}
 use Rattle.std.proofs.Common.{sym, ◌∙◌}
 use Rattle.model.specs.declared.{Pair.Pair}

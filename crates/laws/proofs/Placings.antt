@@ -1,6 +1,7 @@
 -- The two placings of a compound and ranking equally (SPECIFICATION, "The third promise, word by word"): accepted as
 -- the table is, with the same reply; record k's term joins the same parts, and no term below it changes. Assumes
 -- nothing.
+-- What a reader or a contract cites stands in specs/Placings.
 use Rattle.std.specs.Prelude.{◌≡◌, ◌⊎◌, false, List, [], ◌∷◌, ℕ, zero, suc, ◌+◌, ◌*◌, ◌<◌, ◌≤◌, ltb, eqb, ℤ, length}
 use Rattle.std.proofs.Math.Path.{refl, sym, ap}
 use Rattle.std.proofs.Common.{◌∙◌, inl, inr, arith}

@@ -1,6 +1,7 @@
 -- The report's Proposition 3, further laws for preference terms (section 4.1), as theorems about `better`.
 -- A↔ is any term over the columns A under which nothing is better. Assumes nothing.
 -- Left out, since the specification has no linear sum: 3 (c). The text that we hold shows no 3 (h).
+-- What a reader or a contract cites stands in specs/Report.
 use Rattle.std.specs.Prelude.{◌≡◌, Bool, ◌&&◌, ◌||◌}
 use Rattle.std.proofs.Math.Path.{refl, sym}
 use Rattle.std.proofs.Common.{◌∙◌, true≢false}

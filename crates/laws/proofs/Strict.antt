@@ -1,5 +1,6 @@
 -- Better is a strict order for every sound term (the third promise: "strictly"), and respects the ties that compounds
 -- read. Assumes nothing.
+-- What a reader or a contract cites stands in specs/Strict.
 use Rattle.std.specs.Prelude.{◌≡◌, true, List, ℕ, ltb, ℤ}
 use Rattle.std.proofs.lemmas.Bool.{false≢true}
 use Rattle.std.specs.Int.Signed.{lt_z}

@@ -1,5 +1,6 @@
 -- What a call takes (SPECIFICATION, "What a call refuses"): a call that asks for a term refuses nothing exactly when the
 -- table is accepted, the number given is a term record, and the rows, the group byte and the buffer fit. Assumes nothing.
+-- What a reader or a contract cites stands in specs/Taken.
 use Rattle.std.specs.Prelude.{◌≡◌, true, List, ℕ, ℤ}
 use Rattle.model.specs.Term.{term_at}
 use Rattle.laws.specs.Sound.{sound, within}

@@ -1,4 +1,3 @@
+// Theorems about the definitions of `model`, and laws that the code rests on. No code (specs/, proofs/); `theorems` states
+// those that a reader should read.
 #![tactic(auto)]
-
-// Theorems about the definitions of `model`, and laws that the code rests on. No code (specs/); `theorems` states those that a
-// reader should read.

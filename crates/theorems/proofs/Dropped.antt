@@ -1,5 +1,6 @@
 -- What Query takes, in the words of the third promise; "beaten" as a test; and every dropped row is beaten by a kept row
 -- of the set. Assumes nothing.
+-- What a reader or a contract cites stands in specs/Dropped.
 use Rattle.std.specs.Prelude.{◌≡◌, refl, true, false, List, ℕ, ◌<◌, ℤ, get_or}
 use Rattle.model.specs.declared.{Verdict.Verdict}
 use Rattle.model.specs.Term.{term_at}

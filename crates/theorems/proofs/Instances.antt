@@ -1,5 +1,6 @@
 -- The theorems of src/lib.rt and of the second signed sentence (src/signed.rt) that have hypotheses, on table T1 and rows
 -- V of the specification ("Worked cases"), with every hypothesis computed: none of them is empty. Assumes nothing.
+-- What a reader or a contract cites stands in specs/Instances.
 use Rattle.std.specs.Prelude.{◌≡◌, refl, ◌↔◌, true, List, ℕ}
 use Rattle.std.proofs.Common.{arith}
 use Rattle.model.specs.Record.{record_count, record_at, kind_at, is_term, p_at, q_at}

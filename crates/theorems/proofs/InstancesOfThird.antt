@@ -1,5 +1,6 @@
 -- The third signed sentence on records of kind 16, 17 and 18, with every hypothesis computed, each clause used on rows
 -- whose answers are computed: none of them is empty. Assumes nothing.
+-- What a reader or a contract cites stands in specs/InstancesOfThird.
 use Rattle.std.specs.Prelude.{◌≡◌, refl, true, false, List, [], ◌∷◌, ◌++◌, ℕ, ℤ, pos, get_or}
 use Rattle.std.proofs.Common.{sym, ◌∙◌, subst, inl, inr, ⊎_elim, arith}
 use Rattle.std.specs.Int.Bits.{bit_or}

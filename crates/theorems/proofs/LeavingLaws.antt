@@ -1,4 +1,5 @@
 -- Rows left out, and two catalogues, on bytes (SPECIFICATION, "Leaving out rows"). Assumes nothing.
+-- What a reader or a contract cites stands in specs/Leaving.
 use Rattle.std.specs.Prelude.{◌≡◌, refl, Bool, true, List, ℕ, ◌*◌, ◌<◌, ◌≤◌, ℤ, length, get_or}
 use Rattle.std.proofs.Math.Path.{sym, ap}
 use Rattle.std.proofs.Common.{◌∙◌, arith}

@@ -1,4 +1,4 @@
--- `theorems::accepted_terms`: proved in specs/Accepted and specs/AcceptedTerms of `laws`. Assumes nothing.
+-- `theorems::accepted_terms`: proved in specs/Accepted and proofs/AcceptedTerms of `laws`. Assumes nothing.
 use Rattle.laws.specs.Accepted.{accepted-true}
 use Rattle.laws.proofs.AcceptedTerms.{accepted-term}
 use Rattle.theorems.proofs.accepted_terms.Statement.{statement}

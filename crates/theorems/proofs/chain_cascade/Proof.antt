@@ -1,4 +1,4 @@
--- `theorems::chain_cascade`: proved in specs/Cascade. Assumes nothing.
+-- `theorems::chain_cascade`: proved in proofs/Cascade. Assumes nothing.
 use Rattle.theorems.proofs.Cascade.{chain-keeps-equal, chain-prior}
 use Rattle.theorems.proofs.chain_cascade.Statement.{statement}
 use Rattle.theorems.proofs.chain_cascade.Tie as tie

@@ -1,4 +1,4 @@
--- `case_lines::input::read_full` is safe and ends: each turn reads on in the buffer.
+-- `case_lines::input::read_full` meets its contract: each turn reads on in the buffer.
 use Rattle.std.specs.Prelude.{◌-◌, ◌≤◌, length}
 use Rattle.case_lines.proofs.input.read_full.Given as goal
 

@@ -1,5 +1,4 @@
--- `compare::outcomes::compare_rows` meets its contract: the array holds the codes of the term records below `k`. Assumes
--- nothing.
+-- `compare::outcomes::compare_rows` meets its contract: the array holds the codes of the term records below `k`.
 use mathlib.Core.Path.{◌≡◌}
 use mathlib.Core.Bool.{true}
 use Prim.Native.Nat.{ℕ, ◌+◌, ◌-◌, ◌≤◌, ◌<◌}

@@ -1,5 +1,4 @@
--- `parts::naming::by_kept_rows` meets its contract: the rows below i have named the rows that they beat. Assumes
--- nothing.
+-- `parts::naming::by_kept_rows` meets its contract: the rows below i have named the rows that they beat.
 use mathlib.Core.Path.{◌≡◌}
 use Prim.Native.Nat.{◌-◌, ◌≤◌}
 use lib.ListN.{length}

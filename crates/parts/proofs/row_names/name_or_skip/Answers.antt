@@ -1,5 +1,4 @@
--- `parts::row_names::name_or_skip` meets its contract: a row that is gone is dropped, and names none. Assumes
--- nothing.
+-- `parts::row_names::name_or_skip` meets its contract: a row that is gone is dropped, and names none.
 use Rattle.laws.specs.Gone.{dropped-of}
 use Rattle.parts.proofs.RowNamesNames.{named-gone}
 use Rattle.parts.proofs.row_names.name_or_skip.Goals as goal

@@ -1,5 +1,4 @@
--- `perfect::marks::marked` meets its contract. The arrays hold the marks of the terms below record `k`. Assumes
--- nothing.
+-- `perfect::marks::marked` meets its contract. The arrays hold the marks of the terms below record `k`.
 use mathlib.Core.Path.{◌≡◌}
 use mathlib.Core.Bool.{true, false}
 use Prim.Native.Nat.{◌+◌, ◌-◌, ◌≤◌}

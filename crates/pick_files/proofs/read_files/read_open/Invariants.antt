@@ -1,4 +1,4 @@
--- `pick_files::read_files::read_open` is safe and ends: each turn reads on in the buffer.
+-- `pick_files::read_files::read_open` meets its contract: each turn reads on in the buffer.
 use Rattle.std.specs.Prelude.{◌-◌, ◌≤◌, length}
 use Rattle.pick_files.proofs.read_files.read_open.Given as goal
 

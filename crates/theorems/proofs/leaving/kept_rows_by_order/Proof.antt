@@ -1,4 +1,4 @@
--- `theorems::leaving::kept_rows_by_order`: proved in specs/Leaving. Assumes nothing.
+-- `theorems::leaving::kept_rows_by_order`: proved in proofs/LeavingLaws. Assumes nothing.
 use Rattle.theorems.proofs.LeavingLaws.{kept-rows-order}
 use Rattle.theorems.proofs.leaving.kept_rows_by_order.Statement.{statement}
 use Rattle.theorems.proofs.leaving.kept_rows_by_order.Tie as tie

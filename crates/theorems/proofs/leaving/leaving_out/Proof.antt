@@ -1,4 +1,4 @@
--- `theorems::leaving::leaving_out`: proved in specs/Leaving. Assumes nothing.
+-- `theorems::leaving::leaving_out`: proved in proofs/LeavingLaws. Assumes nothing.
 use Rattle.theorems.proofs.LeavingLaws.{leaving-out}
 use Rattle.theorems.proofs.leaving.leaving_out.Statement.{statement}
 use Rattle.theorems.proofs.leaving.leaving_out.Tie as tie

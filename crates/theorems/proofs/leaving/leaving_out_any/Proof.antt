@@ -1,4 +1,4 @@
--- `theorems::leaving::leaving_out_any`: proved in specs/Leaving. Assumes nothing.
+-- `theorems::leaving::leaving_out_any`: proved in proofs/LeavingLaws. Assumes nothing.
 use Rattle.theorems.proofs.LeavingLaws.{left-out-of}
 use Rattle.theorems.proofs.leaving.leaving_out_any.Statement.{statement}
 use Rattle.theorems.proofs.leaving.leaving_out_any.Tie as tie

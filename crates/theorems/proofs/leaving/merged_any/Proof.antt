@@ -1,4 +1,4 @@
--- `theorems::leaving::merged_any`: proved in specs/Leaving, and in specs/Catalogues of `laws`. Assumes nothing.
+-- `theorems::leaving::merged_any`: proved in proofs/LeavingLaws, and in specs/Catalogues of `laws`. Assumes nothing.
 use Rattle.laws.specs.Catalogues.{merge-all}
 use Rattle.theorems.proofs.LeavingLaws.{merged-of}
 use Rattle.theorems.proofs.leaving.merged_any.Statement.{statement}

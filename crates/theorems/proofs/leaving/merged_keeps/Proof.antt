@@ -1,4 +1,4 @@
--- `theorems::leaving::merged_keeps`: proved in specs/Merged. Assumes nothing.
+-- `theorems::leaving::merged_keeps`: proved in proofs/Merged. Assumes nothing.
 use Rattle.theorems.proofs.Merged.{merged_keeps}
 use Rattle.theorems.proofs.leaving.merged_keeps.Statement.{statement}
 use Rattle.theorems.proofs.leaving.merged_keeps.Tie as tie

@@ -1,4 +1,4 @@
--- `theorems::parts::dropped_beaten_by_kept`: proved in specs/Dropped. Assumes nothing.
+-- `theorems::parts::dropped_beaten_by_kept`: proved in proofs/Dropped. Assumes nothing.
 use Rattle.theorems.proofs.Dropped.{dropped-beaten-by-kept}
 use Rattle.theorems.proofs.parts.dropped_beaten_by_kept.Statement.{statement}
 use Rattle.theorems.proofs.parts.dropped_beaten_by_kept.Tie as tie

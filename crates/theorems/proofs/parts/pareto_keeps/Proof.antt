@@ -1,4 +1,4 @@
--- `theorems::parts::pareto_keeps`: proved in specs/Equally. Assumes nothing.
+-- `theorems::parts::pareto_keeps`: proved in proofs/Equally. Assumes nothing.
 use Rattle.theorems.proofs.Equally.{pareto-keeps}
 use Rattle.theorems.proofs.parts.pareto_keeps.Statement.{statement}
 use Rattle.theorems.proofs.parts.pareto_keeps.Tie as tie

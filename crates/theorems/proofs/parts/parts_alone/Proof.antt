@@ -1,4 +1,4 @@
--- `theorems::parts::parts_alone`: proved in specs/Alone. Assumes nothing.
+-- `theorems::parts::parts_alone`: proved in proofs/Alone. Assumes nothing.
 use Rattle.theorems.proofs.Alone.{parts-alone}
 use Rattle.theorems.proofs.parts.parts_alone.Statement.{statement}
 use Rattle.theorems.proofs.parts.parts_alone.Tie as tie

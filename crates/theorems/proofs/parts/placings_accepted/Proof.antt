@@ -1,4 +1,4 @@
--- `theorems::parts::placings_accepted`: proved in specs/Placed. Assumes nothing.
+-- `theorems::parts::placings_accepted`: proved in proofs/Placed. Assumes nothing.
 use Rattle.theorems.proofs.Placed.{placings-accepted}
 use Rattle.theorems.proofs.parts.placings_accepted.Statement.{statement}
 use Rattle.theorems.proofs.parts.placings_accepted.Tie as tie

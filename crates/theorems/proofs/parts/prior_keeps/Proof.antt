@@ -1,4 +1,4 @@
--- `theorems::parts::prior_keeps`: proved in specs/Placed. Assumes nothing.
+-- `theorems::parts::prior_keeps`: proved in proofs/Placed. Assumes nothing.
 use Rattle.theorems.proofs.Placed.{prior-keeps}
 use Rattle.theorems.proofs.parts.prior_keeps.Statement.{statement}
 use Rattle.theorems.proofs.parts.prior_keeps.Tie as tie

@@ -1,4 +1,4 @@
--- `theorems::parts::second_by_group`: proved in specs/Among. Assumes nothing.
+-- `theorems::parts::second_by_group`: proved in proofs/Among. Assumes nothing.
 use Rattle.theorems.proofs.Among.{second-by-group}
 use Rattle.theorems.proofs.parts.second_by_group.Statement.{statement}
 use Rattle.theorems.proofs.parts.second_by_group.Tie as tie

@@ -1,4 +1,4 @@
--- `theorems::signed::drops_name_lowest`: proved in specs/Answered of `laws`. Assumes nothing.
+-- `theorems::signed::drops_name_lowest`: proved in proofs/Answered of `laws`. Assumes nothing.
 use Rattle.laws.proofs.Answered.{drops-name-lowest}
 use Rattle.theorems.proofs.signed.drops_name_lowest.Statement.{statement}
 use Rattle.theorems.proofs.signed.drops_name_lowest.Tie as tie

@@ -1,4 +1,4 @@
--- `theorems::signed::gives_and_writes`: proved in specs/Answered of `laws`. Assumes nothing.
+-- `theorems::signed::gives_and_writes`: proved in proofs/Answered of `laws`. Assumes nothing.
 use Rattle.laws.proofs.Answered.{gives-and-writes}
 use Rattle.theorems.proofs.signed.gives_and_writes.Statement.{statement}
 use Rattle.theorems.proofs.signed.gives_and_writes.Tie as tie

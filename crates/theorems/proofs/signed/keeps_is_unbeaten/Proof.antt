@@ -1,4 +1,4 @@
--- `theorems::signed::keeps_is_unbeaten`: proved in specs/Answered of `laws`. Assumes nothing.
+-- `theorems::signed::keeps_is_unbeaten`: proved in proofs/Answered of `laws`. Assumes nothing.
 use Rattle.laws.proofs.Answered.{keeps-unbeaten}
 use Rattle.theorems.proofs.signed.keeps_is_unbeaten.Statement.{statement}
 use Rattle.theorems.proofs.signed.keeps_is_unbeaten.Tie as tie

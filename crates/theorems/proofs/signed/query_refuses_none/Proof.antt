@@ -1,4 +1,4 @@
--- `theorems::signed::query_refuses_none`: proved in specs/Joined. Assumes nothing.
+-- `theorems::signed::query_refuses_none`: proved in proofs/Joined. Assumes nothing.
 use Rattle.theorems.proofs.Joined.{query-refuses-none}
 use Rattle.theorems.proofs.signed.query_refuses_none.Statement.{statement}
 use Rattle.theorems.proofs.signed.query_refuses_none.Tie as tie

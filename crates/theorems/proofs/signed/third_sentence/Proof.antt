@@ -1,4 +1,4 @@
--- `theorems::signed::third_sentence`: proved in specs/Joined. Assumes nothing.
+-- `theorems::signed::third_sentence`: proved in proofs/Joined. Assumes nothing.
 use Rattle.theorems.proofs.Joined.{third-sentence}
 use Rattle.theorems.proofs.signed.third_sentence.Statement.{statement}
 use Rattle.theorems.proofs.signed.third_sentence.Tie as tie

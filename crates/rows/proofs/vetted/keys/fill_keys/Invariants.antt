@@ -1,5 +1,4 @@
 -- `rows::vetted::keys::fill_keys` meets its contract: the rows below i have the keys of their cells in column c.
---
 use mathlib.Core.Path.{◌≡◌}
 use Prim.Native.Nat.{ℕ, ◌-◌, ◌<◌, ◌≤◌}
 use lib.Count.{count_trailing_zeros}
