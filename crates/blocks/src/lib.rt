@@ -3,5 +3,5 @@
 #![tactic(auto)]
 
 mod base;
-mod records;
+mod by_record;
 pub mod vetted;

@@ -6,7 +6,7 @@ ghost use Rattle.model.specs.Term.{term_at};
 ghost use Rattle.laws.specs.Codes.{code};
 ghost use Rattle.pairs.specs.Pairs.{Comparable, RowOf};
 
-use crate::records::record_code;
+use crate::by_record::record_code;
 use plan::vetted::exit_masks::told;
 
 // The code of rows i and j, which are handed in as parts of the run. `known` has the bits of the term's code that are told

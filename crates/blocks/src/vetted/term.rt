@@ -4,7 +4,7 @@ ghost use Rattle.std.specs.Prelude.{◌+◌, ◌*◌, ◌<◌, ◌≤◌, length
 ghost use Rattle.blocks.specs.Ready.{Ready};
 ghost use Rattle.blocks.specs.Blocks.{RecordTold, AskedCoded};
 
-use crate::records::record_codes;
+use crate::by_record::record_codes;
 use lanes::vetted::known::{all_known, put_known, start_known, tell_lanes};
 
 // The asked term's codes in the lanes that are lit, from what the records up to it tell.

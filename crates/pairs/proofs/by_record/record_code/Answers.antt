@@ -1,4 +1,4 @@
--- `pairs::records::record_code` meets its contract.
+-- `pairs::by_record::record_code` meets its contract.
 use mathlib.Core.Path.{sym, ◌∙◌}
 use Prim.Native.Nat.{◌+◌, ◌*◌}
 use native.Mathlib.Omega.{arith}
@@ -10,7 +10,7 @@ use Rattle.model.specs.Better.{cell}
 use Rattle.terms.specs.Coded.{same_bits, other-bits}
 use Rattle.pairs.proofs.Coded.{record-below, rank-place, based, column-in, two-ranked, same-is, ranked-is, explicit-code-is, not-explicit, is-explicit, left-low, parts_low, joined_is}
 use borrow.Author.Rules.{sfits_of}
-use Rattle.pairs.proofs.records.record_code.Goals as goal
+use Rattle.pairs.proofs.by_record.record_code.Goals as goal
 
 pub overflow_cast-l : goal.overflow_cast-l
 overflow_cast-l c =

@@ -1,7 +1,7 @@
--- `pairs::records::joined` meets its contract.
+-- `pairs::by_record::joined` meets its contract.
 use borrow.Author.Tests.{eq-eqb, ne_eqb}
 use Rattle.pairs.specs.Pairs.{op_code}
-use Rattle.pairs.proofs.records.joined.Goals as goal
+use Rattle.pairs.proofs.by_record.joined.Goals as goal
 
 pub returns-then-op-eq2 : goal.returns-then-op-eq2
 unfolding op_code

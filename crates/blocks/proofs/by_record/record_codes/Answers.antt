@@ -1,4 +1,4 @@
--- `blocks::records::record_codes` meets its contract.
+-- `blocks::by_record::record_codes` meets its contract.
 use mathlib.Core.Path.{sym, ◌∙◌, ap}
 use Prim.Native.Nat.{◌+◌, ◌*◌, ◌/◌, ◌%◌}
 use native.Mathlib.Omega.{arith}
@@ -12,7 +12,7 @@ use Rattle.plan.specs.Codes.{column-below}
 use Rattle.blocks.specs.Coded.{ok, below, coded-other, record-below, rank-place, ranks-end, value_room}
 use Rattle.blocks.proofs.OfBase.{base-asked, base-room, base-coded}
 use Rattle.blocks.proofs.OfCompound.{parts_below, compound-coded}
-use Rattle.blocks.proofs.records.record_codes.Goals as goal
+use Rattle.blocks.proofs.by_record.record_codes.Goals as goal
 
 pub decoded-requires : goal.decoded-requires
 decoded-requires c =
