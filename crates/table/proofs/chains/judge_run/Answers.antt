@@ -32,8 +32,8 @@ pub fails_clash-requires : goal.fails_clash-requires
 fails_clash-requires c =
     let t = c.args.table.now in
     let e = c.requires.1 in
-    let h : c.args.k ≤ nearest_term t c.args.k + 16 = omega (arith, e, c.if-k-near-gt-MOST_VALUES.false) in
-    rw e (values t c.args.columns c.args.k c.requires.0 h)
+    let few : c.args.k ≤ nearest_term t c.args.k + 16 = omega (arith, e, c.if-k-near-gt-MOST_VALUES.false) in
+    rw e (values t c.args.columns c.args.k c.requires.0 few)
 
 pub returns : goal.returns
 unfolding judge_run refusal numbered refusals
