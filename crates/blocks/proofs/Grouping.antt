@@ -1,5 +1,5 @@
 -- Which lanes stay lit, column after column of the group. Assumes nothing.
-use mathlib.Core.Path.{◌≡◌, refl, sym, ap, ◌∙◌}
+use mathlib.Core.Path.{◌≡◌, refl, sym, ◌∙◌}
 use mathlib.Core.Bool.{Bool, true, false, not, ◌&&◌, ◌||◌, not-not, and-true, and-false, and_assoc, false≢true}
 use mathlib.Core.List.{List}
 use Prim.Native.Nat.{ℕ, ◌+◌, ◌*◌, ◌/◌, ◌%◌, ◌^◌, ◌≤◌, ◌<◌}
@@ -9,11 +9,11 @@ use lib.IntN.{ℤ, pos}
 use lib.ListN.{get_or, length}
 use borrow.Author.Tests.{eq-eqb, ne_eqb}
 use Rattle.model.specs.Search.{any_below}
-use Rattle.model.specs.Bytes.{eq_z}
+use Rattle.model.specs.Bytes.{bit, eq_z}
 use Rattle.model.specs.Better.{cell}
 use Rattle.model.specs.Query.{row_at}
 use Rattle.laws.specs.Search.{none-i, none-e}
-use Rattle.rows.specs.Group.{differs, differs_none, differs-left, equal-in-below}
+use Rattle.rows.specs.Group.{differs, differs_none, equal-in-below}
 use Rattle.rows.specs.Keys.{Keyed}
 use Rattle.rows.specs.Values.{Valued}
 use Rattle.rows.specs.Places.{row-length}
@@ -25,15 +25,15 @@ use Rattle.blocks.specs.Alive.{Columned, Grouped, Alive, Above, Beyond}
 
 -- ---- lanes as they were written
 
-pub lit-free : (gone : List ℕ) (at : ℕ) (old live : List ℕ) → Wrote 0 (free_lane gone at) 0 64 old live
+pub lit_free : (gone : List ℕ) (at : ℕ) {old live : List ℕ} → Wrote 0 (free_lane gone at) 0 64 old live
     → (j : ℕ) → j < 64 → lit live j ≡ free gone at j
 unfolding free_lane
-lit-free gone at old live r j l = lit-byte live j (free gone at j) (r.made j l)
+lit_free gone at {live = live} r j l = lit-byte live j (free gone at j) (r.made j l)
 
-pub lit-pending : (gone by : List ℕ) (at : ℕ) (old live : List ℕ) → Wrote 0 (pending_lane gone by at) 0 64 old live
+pub lit_pending : (gone by : List ℕ) (at : ℕ) {old live : List ℕ} → Wrote 0 (pending_lane gone by at) 0 64 old live
     → (j : ℕ) → j < 64 → lit live j ≡ pending gone by at j
 unfolding pending_lane
-lit-pending gone by at old live r j l = lit-byte live j (pending gone by at j) (r.made j l)
+lit_pending gone by at {live = live} r j l = lit-byte live j (pending gone by at j) (r.made j l)
 
 lit-equal : (old : List ℕ) (v : ℤ) (values : List ℤ) (at : ℕ) (new : List ℕ)
     → Wrote 0 (equal_lane old v values at) 0 64 old new → (j : ℕ) → j < 64
@@ -52,15 +52,16 @@ not-or false b = refl
 
 -- ---- one column
 
-module _ (left columns : ℕ) (rows : List ℤ) (n i b c : ℕ) where
+module _ {group columns : ℕ} {rows : List ℤ} {n i b c : ℕ} where
   -- It is of the group.
-  pub columned-set : (values : List ℤ) (v : ℤ) (old new : List ℕ) → left % 2 ≡ 1 → Valued columns rows n columns values
+  pub columned_set : {values : List ℤ} {v : ℤ} {old new : List ℕ} → group / 2 ^ c % 2 ≡ 1 → Valued columns rows n columns values
       → c < columns → i < n → v ≡ get_or values (i / 64 * 512 + c * 64 + i % 64) (pos 0)
-      → Wrote 0 (equal_lane old v values (b * 512 + c * 64)) 0 64 old new → Columned left columns rows n i b c old new
-  columned-set values v old new o r l g e w =
+      → Wrote 0 (equal_lane old v values (b * 512 + c * 64)) 0 64 old new → Columned group columns rows n i b c old new
+  unfolding differs bit
+  columned_set {values} {v} {old} {new} o r l g e w =
       record {
         on = λ j h k. lit-equal old v values (b * 512 + c * 64) new w j h
-            ∙ rw (eq-eqb (left % 2) 1 o, r.each b j c h k l, own, not-not (same j));
+            ∙ rw (eq-eqb (group / 2 ^ c % 2) 1 o, r.each b j c h k l, own, not-not (same j));
         off = λ j h z. lit-equal old v values (b * 512 + c * 64) new w j h ∙ rw z;
       }
     where
@@ -73,100 +74,54 @@ module _ (left columns : ℕ) (rows : List ℤ) (n i b c : ℕ) where
           e ∙ (rw q at (r.each (i / 64) (i % 64) c (omega arith) (omega (arith, g)) l))
 
   -- It is not.
-  pub columned-skip : (live : List ℕ) → (left % 2 ≡ 1 → ⊥) → Columned left columns rows n i b c live live
-  columned-skip live o =
+  pub columned_skip : {live : List ℕ} → (group / 2 ^ c % 2 ≡ 1 → ⊥) → Columned group columns rows n i b c live live
+  unfolding differs bit
+  columned_skip {live} o =
       record {
-        on = λ j h k. rw (ne_eqb (left % 2) 1 o) (sym (and-true (lit live j)));
+        on = λ j h k. rw (ne_eqb (group / 2 ^ c % 2) 1 o) (sym (and-true (lit live j)));
         off = λ j h z. z;
       }
 
 -- ---- the columns below c
 
-module _ (group columns : ℕ) (rows : List ℤ) (n i b : ℕ) (first : List ℕ) where
-  abbrev apart : ℕ → ℕ → Bool
-  apart j = differs group (row_at columns rows i) (row_at columns rows (b * 64 + j))
+-- Column c is of the group, and the rows of lane j and row i differ there.
+abbrev apart : ℕ → ℕ → List ℤ → ℕ → ℕ → ℕ → ℕ → Bool
+apart group columns rows i b j = differs group (row_at columns rows i) (row_at columns rows (b * 64 + j))
 
-  pub grouped-none : Grouped group columns rows n i b 0 first first
+module _ {group columns : ℕ} {rows : List ℤ} {n i b : ℕ} {first : List ℕ} where
+  pub grouped_none : Grouped group columns rows n i b 0 first first
   unfolding any_below
-  grouped-none = record { on = λ j h k. sym (and-true (lit first j)); off = λ j h z. z }
+  grouped_none = record { on = λ j h k. sym (and-true (lit first j)); off = λ j h z. z }
 
-  pub grouped-more : (left c : ℕ) (old new : List ℕ) → left ≡ group / 2 ^ c → Grouped group columns rows n i b c first old
-      → Columned left columns rows n i b c old new → Grouped group columns rows n i b (c + 1) first new
-  grouped-more left c old new e r o =
+  pub grouped_more : {c : ℕ} {old new : List ℕ} → Grouped group columns rows n i b c first old
+      → Columned group columns rows n i b c old new → Grouped group columns rows n i b (c + 1) first new
+  grouped_more {c} r o =
       record {
-        on = λ j h k. o.on j h k
-            ∙ rw (r.on j h k, bit j, and_assoc (lit first j) (not (any_below c (apart j))) (not (apart j c)), one j);
+        on = λ j h k. let p = apart group columns rows i b j in
+            o.on j h k
+            ∙ rw (r.on j h k, and_assoc (lit first j) (not (any_below c p)) (not (p c)), sym (not-or (any_below c p) (p c)), any_step p c);
         off = λ j h z. o.off j h (r.off j h z);
       }
-    where
-      bit : (j : ℕ)
-          → (eqb (left % 2) 1 && not (eq_z (cell (row_at columns rows i) c) (cell (row_at columns rows (b * 64 + j)) c)))
-          ≡ apart j c
-      bit j = differs-left group c (row_at columns rows i) (row_at columns rows (b * 64 + j)) e
-
-      one : (j : ℕ) → (not (any_below c (apart j)) && not (apart j c)) ≡ not (any_below (c + 1) (apart j))
-      one j = sym (ap not (any_step (apart j) c) ∙ not-or (any_below c (apart j)) (apart j c))
 
   -- With no bit set no lane is put out.
-  pub grouped-all : group ≡ 0 → Grouped group columns rows n i b columns first first
-  grouped-all e =
+  pub grouped_all : group ≡ 0 → Grouped group columns rows n i b columns first first
+  grouped_all e =
       record {
         on = λ j h k. rw (none j) (sym (and-true (lit first j)));
         off = λ j h z. z;
       }
     where
-      none : (j : ℕ) → any_below columns (apart j) ≡ false
+      none : (j : ℕ) → any_below columns (apart group columns rows i b j) ≡ false
       none j =
-          none-i columns (apart j)
+          none-i columns (apart group columns rows i b j)
           (λ c h t. let f = differs_none (row_at columns rows i) (row_at columns rows (b * 64 + j)) c in
           false≢true (sym (rw (sym e) at f) ∙ t))
 
-  -- ---- the lanes of row i's key first
-
-  module _ (keys : List ℕ) (mid : List ℕ) (run : length rows ≡ n * columns) (narrow : columns ≤ 8) (row : i < n)
-      (keyed : Keyed group columns rows n keys) (old : List ℕ)
-      (wrote : Wrote 0 (key_lane first (get_or keys i 0) keys (b * 64)) 0 64 old mid) where
-    abbrev same : ℕ → Bool
-    same j = eqb (get_or keys i 0) (get_or keys (b * 64 + j) 0)
-
-    lit-key : (j : ℕ) → j < 64 → lit mid j ≡ (lit first j && same j)
-    unfolding key_lane
-    lit-key j l = lit-byte mid j (lit first j && same j) (wrote.made j l)
-
-    -- A row of the group has row i's key.
-    of-group : (j : ℕ) → b * 64 + j < n → not (any_below columns (apart j)) ≡ true → same j ≡ true
-    of-group j k e =
-        eq-eqb (get_or keys i 0) (get_or keys (b * 64 + j) 0)
-        (keyed.each i (b * 64 + j) row k
-        (equal-in-below group columns (row_at columns rows i) (row_at columns rows (b * 64 + j))
-        (row-length columns rows n run i row) (row-length columns rows n run (b * 64 + j) k) narrow ∙ e))
-
-    absorbed : (j : ℕ) → b * 64 + j < n
-        → ((lit first j && same j) && not (any_below columns (apart j))) ≡ (lit first j && not (any_below columns (apart j)))
-    absorbed j k = absorb (lit first j) (same j) (not (any_below columns (apart j))) (of-group j k)
-
-    pub grouped-keyed : (new : List ℕ) → Grouped group columns rows n i b columns mid new
-        → Grouped group columns rows n i b columns first new
-    grouped-keyed new r =
-        record {
-          on = λ j h k. r.on j h k ∙ rw (lit-key j h) (absorbed j k);
-          off = λ j h z. r.off j h (lit-key j h ∙ rw z);
-        }
-
-    -- No lane has row i's key.
-    pub grouped-dark : any_below 64 (lit mid) ≡ false → Grouped group columns rows n i b columns first mid
-    grouped-dark e =
-        record {
-          on = λ j h k. let out = none-e 64 (lit mid) e j h in
-              out ∙ sym (sym (absorbed j k) ∙ rw (sym (lit-key j h) ∙ out));
-          off = λ j h z. lit-key j h ∙ rw z;
-        }
-
   -- After all columns the lanes of the group are lit.
-  pub alive : (pass : ℕ → Bool) (live : List ℕ) → length rows ≡ n * columns → columns ≤ 8 → i < n
+  pub alive : {pass : ℕ → Bool} {live : List ℕ} → length rows ≡ n * columns → columns ≤ 8 → i < n
       → ((j : ℕ) → j < 64 → lit first j ≡ pass j) → ((j : ℕ) → j < 64 → n ≤ b * 64 + j → pass j ≡ false)
       → Grouped group columns rows n i b columns first live → Alive group columns rows n i b pass live
-  alive pass live run narrow g e z r =
+  alive run narrow g e z r =
       record {
         on = λ j h k. r.on j h k
             ∙ rw (
@@ -177,17 +132,61 @@ module _ (group columns : ℕ) (rows : List ℤ) (n i b : ℕ) (first : List ℕ
         off = λ j h k. r.off j h (e j h ∙ z j h k);
       }
 
+-- ---- the lanes of row i's key first
+
+-- Lane j has row i's key.
+abbrev same : List ℕ → ℕ → ℕ → ℕ → Bool
+same keys i b j = eqb (get_or keys i 0) (get_or keys (b * 64 + j) 0)
+
+lit-key : (keys : List ℕ) (i b : ℕ) (first : List ℕ) {old mid : List ℕ}
+    → Wrote 0 (key_lane first (get_or keys i 0) keys (b * 64)) 0 64 old mid → (j : ℕ) → j < 64
+    → lit mid j ≡ (lit first j && same keys i b j)
+unfolding key_lane
+lit-key keys i b first {mid = mid} wrote j l = lit-byte mid j (lit first j && same keys i b j) (wrote.made j l)
+
+-- A row of the group has row i's key, so that its lane is lit in any case.
+absorbed : {group columns : ℕ} {rows : List ℤ} {n : ℕ} (i b : ℕ) (first : List ℕ) {keys : List ℕ}
+    → length rows ≡ n * columns → columns ≤ 8 → i < n → Keyed group columns rows n keys → (j : ℕ) → b * 64 + j < n
+    → ((lit first j && same keys i b j) && not (any_below columns (apart group columns rows i b j)))
+    ≡ (lit first j && not (any_below columns (apart group columns rows i b j)))
+absorbed {group} {columns} {rows} {n} i b first {keys} run narrow row keyed j k =
+    absorb (lit first j) (same keys i b j) (not (any_below columns (apart group columns rows i b j)))
+    (λ e. eq-eqb (get_or keys i 0) (get_or keys (b * 64 + j) 0)
+    (keyed.each i (b * 64 + j) row k
+    (equal-in-below group columns (row_at columns rows i) (row_at columns rows (b * 64 + j))
+    (row-length columns rows n run i row) (row-length columns rows n run (b * 64 + j) k) narrow ∙ e)))
+
+module _ {group columns : ℕ} {rows : List ℤ} {n i b : ℕ} {first keys mid old : List ℕ} (run : length rows ≡ n * columns)
+    (narrow : columns ≤ 8) (row : i < n) (keyed : Keyed group columns rows n keys)
+    (wrote : Wrote 0 (key_lane first (get_or keys i 0) keys (b * 64)) 0 64 old mid) where
+  pub grouped_keyed : {new : List ℕ} → Grouped group columns rows n i b columns mid new
+      → Grouped group columns rows n i b columns first new
+  grouped_keyed r =
+      record {
+        on = λ j h k. r.on j h k ∙ rw (lit-key keys i b first wrote j h) (absorbed i b first run narrow row keyed j k);
+        off = λ j h z. r.off j h (lit-key keys i b first wrote j h ∙ rw z);
+      }
+
+  -- No lane has row i's key.
+  pub grouped_dark : any_below 64 (lit mid) ≡ false → Grouped group columns rows n i b columns first mid
+  grouped_dark e =
+      record {
+        on = λ j h k. let out = none-e 64 (lit mid) e j h in
+            out ∙ sym (sym (absorbed i b first run narrow row keyed j k) ∙ rw (sym (lit-key keys i b first wrote j h) ∙ out));
+        off = λ j h z. lit-key keys i b first wrote j h ∙ rw z;
+      }
+
 -- No lane that is no row is free,
-pub free_off : (n b : ℕ) (gone : List ℕ) → b * 64 < n → n ≤ 1024 → Above n gone
+pub free_off : {n : ℕ} (b : ℕ) {gone : List ℕ} → b * 64 < n → n ≤ 1024 → Above n gone
     → (j : ℕ) → j < 64 → n ≤ b * 64 + j → free gone (b * 64) j ≡ false
 unfolding free
-free_off n b gone l few a j h k =
+free_off b {gone} l few a j h k =
     ne_eqb (get_or gone (b * 64 + j) 0) 0 (λ e. a.each (b * 64 + j) k (omega (arith, l, few, h)) e)
 
 -- nor waits for a name.
-pub pending-off : (n b : ℕ) (gone by : List ℕ) → b * 64 < n → n ≤ 1024 → Beyond n by
+pub pending_off : {n : ℕ} (b : ℕ) (gone : List ℕ) {by : List ℕ} → b * 64 < n → n ≤ 1024 → Beyond n by
     → (j : ℕ) → j < 64 → n ≤ b * 64 + j → pending gone by (b * 64) j ≡ false
 unfolding pending
-pending-off n b gone by l few a j h k =
+pending_off b gone {by} l few a j h k =
     rw (ne_eqb (get_or by (b * 64 + j) 0) 1024 (λ e. a.each (b * 64 + j) k (omega (arith, l, few, h)) e))
     (and-false (not (eqb (get_or gone (b * 64 + j) 0) 0)))

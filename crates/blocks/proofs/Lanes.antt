@@ -1,20 +1,18 @@
 -- What the loops over the lanes of a base record write are the codes of the lanes' values. Assumes nothing.
 use mathlib.Core.Path.{◌≡◌, refl, ◌∙◌}
 use mathlib.Core.Bool.{Bool, true, false, cond}
-use mathlib.Core.Logic.{⊎_elim}
 use mathlib.Core.List.{List}
-use Prim.Native.Nat.{ℕ, ◌+◌, ◌*◌, ◌-◌, ◌<◌, ◌≤◌}
+use Prim.Native.Nat.{ℕ, ◌+◌, ◌*◌, ◌-◌}
 use native.Mathlib.Omega.{arith}
 use lib.IntN.{ℤ, pos}
-use lib.ListN.{length, get_or, set}
-use lib.Seq.{get_or-set_same, get_or-set_other}
+use lib.ListN.{get_or}
 use borrow.Author.Tests.{lt-ltb}
 use Rattle.model.specs.declared.{BaseTerm.BaseTerm}
 use Rattle.model.specs.declared.BaseTerm.TheVariants.{Explicit}
 use Rattle.model.specs.Bytes.{eq_z}
-use Rattle.laws.specs.Search.{lt-suc-cases}
 use Rattle.laws.specs.Runs.{values_between}
 use Rattle.laws.specs.ValueCodes.{tests_code, apart_code, value_code}
+use Rattle.terms.specs.Run.{Values}
 use Rattle.terms.specs.Prepared.{EndPlace, ReachedFrom}
 use Rattle.terms.specs.Leads.{leads-is}
 use Rattle.ranks.specs.Rank.{rank_of, PlaceOf}
@@ -37,18 +35,10 @@ unfolding tests_code
 apart true first second = refl
 apart false first second = refl
 
--- The code against one place more.
-pub against-more : {reach : List (List Bool)} {k e p q : ℕ} {to : List ℕ} {c : ℕ} → 2 * k + 2 ≤ q
-    → q - (2 * k + 2) < length to → Against reach k e p q to → c ≡ places_code reach k e p q
-    → Against reach k e p (q + 1) (set to (q - (2 * k + 2)) c)
-against-more {k = k} {q = q} {to = to} {c = c} low room a is =
-    record {
-      each = λ m l h.
-          ⊎_elim
-          (λ b. get_or-set_other to (q - (2 * k + 2)) (m - (2 * k + 2)) c 0 (λ z. omega arith) ∙ a.each m l b)
-          (λ b. rw b (get_or-set_same to (q - (2 * k + 2)) c 0 room ∙ is))
-          (lt-suc-cases m q (omega arith));
-    }
+-- EXPLICIT's rank is a place.
+pub own_place : {table : List ℕ} {reach : List (List Bool)} {k e : ℕ} {t : BaseTerm} {x v : ℤ} → t ≡ Explicit
+    → BaseAsked table reach k e t x v → PlaceOf table k e v x
+own_place is asked = rw is at asked.own
 
 module _ {table : List ℕ} {reach : List (List Bool)} {k e : ℕ} {x v : ℤ} {ranks : List ℤ} {at : ℕ} {values : List ℤ}
     {from : ℕ} {old new : List ℕ} where
@@ -80,15 +70,16 @@ module _ {table : List ℕ} {reach : List (List Bool)} {k e : ℕ} {x v : ℤ} {
       }
 
   -- By place.
-  pub place-coded : {to : List ℕ} (asked : BaseAsked table reach k e Explicit x v)
-      → Against reach k e (2 * k + 2 + asked.own.place) (2 * e + 1) to
+  pub place-coded : {to : List ℕ} {t : BaseTerm} → Values table k e → t ≡ Explicit → BaseAsked table reach k e t x v
+      → (own : PlaceOf table k e v x) → Against reach k e (2 * k + 2 + own.place) (2 * e + 1) to
       → Wrote 0 (place_lane to ranks at v values from) (k * 64) 64 old new
-      → BaseCoded table k e Explicit ranks at values from v old new
+      → BaseCoded table k e t ranks at values from v old new
   unfolding place_lane place_code apart_code value_code
-  place-coded {to} asked against w = record { made = λ j l r. w.made j l ∙ of-place j r; below = w.below }
+  place-coded {to} run is asked own against w =
+      rw is (record { made = λ j l r. w.made j l ∙ of-place j r; below = w.below })
     where
       p : ℕ
-      p = 2 * k + 2 + asked.own.place
+      p = 2 * k + 2 + own.place
 
       of-place : (j : ℕ) → (r : PlaceOf table k e (get_or values (from + j) (pos 0)) (get_or ranks (at + j) (pos 0)))
           → place_lane to ranks at v values from j
@@ -97,14 +88,14 @@ module _ {table : List ℕ} {reach : List (List Bool)} {k e : ℕ} {x v : ℤ} {
           let y = get_or values (from + j) (pos 0) in
           let q = 2 * k + 2 + r.place in
           let high = r.ends.high in
-          let few = asked.values.few in
-          let from = asked.reached refl in
+          let few = run.few in
+          let from = asked.reached is in
           let back : q - (2 * k + 2) ≡ r.place = omega arith in
           let there = rw back at (against.each q (omega arith) (omega (arith, high))) in
           rw (
             r.is,
             lt-ltb r.place 33 (omega (arith, high, few)),
             there,
-            places-code-is table k e reach from v y p q asked.own.ends r.ends,
+            places-code-is table k e reach from v y p q own.ends r.ends,
           )
           (apart (eq_z v y) _ _)

@@ -12,18 +12,19 @@ use Rattle.model.specs.Record.{record_at, is_term}
 use Rattle.model.specs.Better.{cell}
 use Rattle.model.specs.Query.{row_at}
 use Rattle.terms.specs.Prepared.{Run}
+use Rattle.plan.specs.declared.vetted.exit_masks.{Exit.Exit}
 use Rattle.plan.specs.Codes.{of-base, column-below, base-sound, base-code-is}
 use Rattle.ranks.specs.Rank.{RankAt}
-use Rattle.blocks.specs.Base.{BaseAsked, BaseRoom, BaseCoded}
+use Rattle.blocks.specs.Base.{BaseAsked, BaseCoded}
 use Rattle.blocks.specs.Ready.{Ready, AtRecord, Coded}
-use Rattle.blocks.specs.Coded.{ok, below, record-below, ranks-end, coded-more}
+use Rattle.blocks.specs.Coded.{ok, below, coded-more}
 
 module _ {table : List ℕ} {numbers : List ℤ} {ends : List ℕ} {reach : List (List Bool)} {marks : List Bool}
-    {exits : List ℕ} {term columns : ℕ} {rows : List ℤ} {n stride : ℕ} {ranks values : List ℤ}
+    {exits : List Exit} {term columns : ℕ} {rows : List ℤ} {n stride : ℕ} {ranks values : List ℤ}
     (ready : Ready table numbers ends reach marks exits term columns rows n stride ranks values)
     {i b k : ℕ} (at : AtRecord marks term n i b k)
     {column : ℕ} {t : BaseTerm} (is : record_at table k ≡ Base column t) where
-  run : Run table k (get_or ends k 0)
+  pub run : Run table k (get_or ends k 0)
   run = ready.runs.each k (below ready at) (ap is_term is)
 
   -- The value that lane j of block c has,
@@ -44,7 +45,6 @@ module _ {table : List ℕ} {numbers : List ℤ} {ends : List ℕ} {reach : List
       (get_or ranks (i / 64 * stride + k * 64 + i % 64) (pos 0)) (get_or values (i / 64 * 512 + column * 64 + i % 64) (pos 0))
   base-asked =
       record {
-        values = run.values;
         is_sound = base-sound (ok ready) (below ready at) is run;
         reached = λ q. ready.reached.each k column (below ready at) (rw q at is);
         own = rank-of (i / 64) (i % 64) (omega arith) (omega (arith, at.row));
@@ -55,16 +55,9 @@ module _ {table : List ℕ} {numbers : List ℤ} {ends : List ℕ} {reach : List
       let q : i / 64 * 64 + i % 64 ≡ i = omega arith in
       rw q at (value-is (i / 64) (i % 64) (omega arith) (omega (arith, at.row)))
 
-  -- Block b stands in the buffers.
-  pub base-room : {codes : List ℕ} → 8192 ≤ length codes
-      → BaseRoom k ranks (b * stride + k * 64) values (b * 512 + column * 64) codes
-  base-room room =
-      let v = ready.value_room.each b at.block in
-      record {
-        ranks_end = ranks-end ready at;
-        values_end = omega (arith, v, column-below (ok ready) (below ready at) is);
-        codes_end = omega (arith, record-below ready at);
-      }
+  -- Block b's values stand in the buffer.
+  pub values-end : b * 512 + column * 64 + 64 ≤ length values
+  values-end = omega (arith, ready.value_room.each b at.block, column-below (ok ready) (below ready at) is)
 
   -- One base record more.
   pub base-coded : {old new : List ℕ} → Coded table marks columns rows n i b k old

@@ -13,6 +13,7 @@ use Rattle.model.specs.Term.{term_at}
 use Rattle.model.specs.Query.{row_at}
 use Rattle.laws.specs.Codes.{code}
 use Rattle.laws.specs.AcceptedKinds.{accepted-joined, accepted-dual}
+use Rattle.plan.specs.declared.vetted.exit_masks.{Exit.Exit}
 use Rattle.plan.specs.Beneath.{OfParts, parts_low}
 use Rattle.plan.specs.Codes.{joined-code-is, dual-code-is}
 use Rattle.laws.specs.Wrote.{Wrote}
@@ -21,7 +22,7 @@ use Rattle.blocks.specs.Ready.{Ready, AtRecord, Coded}
 use Rattle.blocks.specs.Coded.{ok, below, coded-more}
 
 module _ {table : List ℕ} {numbers : List ℤ} {ends : List ℕ} {reach : List (List Bool)} {marks : List Bool}
-    {exits : List ℕ} {term columns : ℕ} {rows : List ℤ} {n stride : ℕ} {ranks values : List ℤ}
+    {exits : List Exit} {term columns : ℕ} {rows : List ℤ} {n stride : ℕ} {ranks values : List ℤ}
     (ready : Ready table numbers ends reach marks exits term columns rows n stride ranks values)
     {i b k : ℕ} (at : AtRecord marks term n i b k) where
   pub parts_below : {c : CompoundTerm} → record_at table k ≡ Compound c → OfParts (λ p. p < k) c
@@ -44,8 +45,8 @@ module _ {table : List ℕ} {numbers : List ℤ} {ends : List ℕ} {reach : List
       (c.each p j a.part m a.part_term small row)
 
   -- One compound more.
-  pub compound-coded : {c : CompoundTerm} → record_at table k ≡ Compound c → {old new : List ℕ}
+  pub compound_coded : {c : CompoundTerm} → record_at table k ≡ Compound c → {old new : List ℕ}
       → Coded table marks columns rows n i b k old → Wrote 0 (compound_lane 64 c old) (k * 64) 64 old new
       → Coded table marks columns rows n i b (k + 1) new
-  compound-coded {c} is {old} r w =
+  compound_coded {c} is {old} r w =
       coded-more r w.below (λ m t j small row. w.made j small ∙ compound-right c is old r j small row)

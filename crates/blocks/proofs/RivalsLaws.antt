@@ -25,7 +25,7 @@ other-on : (a c : Bool) → (a && c) ≡ ((a && true) && c)
 other-on true c = refl
 other-on false c = refl
 
-module _ (group columns : ℕ) (rows : List ℤ) (n i b : ℕ) (gone old new : List ℕ) (row : i < n) where
+module _ {group columns : ℕ} {rows : List ℤ} {n i b : ℕ} (gone : List ℕ) {old new : List ℕ} (row : i < n) where
   on : Alive group columns rows n i b (free gone (b * 64)) old → LeftOut (b * 64) i old new → (j : ℕ) → j < 64 → b * 64 + j < n
       → lit new j ≡ (rival gone (b * 64) i j && equal_in group (row_at columns rows i) (row_at columns rows (b * 64 + j)))
   unfolding rival
@@ -36,28 +36,20 @@ module _ (group columns : ℕ) (rows : List ℤ) (n i b : ℕ) (gone old new : L
       (λ t. rw t (left.others j l (eqb-false (b * 64 + j) i t) ∙ alive.on j l h ∙ other-on (free gone (b * 64) j) same))
       (on-or-off (eqb (b * 64 + j) i))
 
-  pub rivals-alive : Alive group columns rows n i b (free gone (b * 64)) old → LeftOut (b * 64) i old new
+  pub rivals_alive : Alive group columns rows n i b (free gone (b * 64)) old → LeftOut (b * 64) i old new
       → Alive group columns rows n i b (rival gone (b * 64) i) new
-  rivals-alive alive left =
+  rivals_alive alive left =
       record {
         on = on alive left;
         off = λ j l h. left.others j l (λ e. omega (arith, e, h, row)) ∙ alive.off j l h;
       }
 
 -- The lane of row i is put out.
-pub left-own : (i b : ℕ) (live : List ℕ) → 64 ≤ length live → i / 64 ≡ b → LeftOut (b * 64) i live (set live (i % 64) 0)
+pub left_own : (i b : ℕ) (live : List ℕ) → 64 ≤ length live → i / 64 ≡ b → LeftOut (b * 64) i live (set live (i % 64) 0)
 unfolding lit
-left-own i b live room e =
+left_own i b live room e =
     record {
       own = λ j l q. let p : j ≡ i % 64 = omega (arith, l, q, e) in
           rw p (rw (get_or-set_same live (i % 64) 0 0 (omega (arith, room))));
       others = λ j l q. rw (get_or-set_other live (i % 64) j 0 0 (λ p. q (omega (arith, p, e))));
-    }
-
--- It is not in the block.
-pub left-none : (i b : ℕ) (live : List ℕ) → (i / 64 ≡ b → ⊥) → LeftOut (b * 64) i live live
-left-none i b live e =
-    record {
-      own = λ j l q. absurd (e (omega (arith, l, q)));
-      others = λ j l q. refl;
     }

@@ -1,8 +1,7 @@
 -- Which lanes of block b count for row i: those that pass a test and are in its group. Row b * 64 + j is lane j.
-use Rattle.std.specs.Prelude.{◌≡◌, Bool, false, not, ◌&&◌, List, ℕ, ◌+◌, ◌*◌, ◌%◌, ◌≤◌, ◌<◌, eqb, ℤ, get_or, length}
+use Rattle.std.specs.Prelude.{◌≡◌, Bool, false, not, ◌&&◌, List, ℕ, ◌+◌, ◌*◌, ◌≤◌, ◌<◌, ℤ, get_or, length}
 use Rattle.model.specs.Search.{any_below}
-use Rattle.model.specs.Bytes.{eq_z}
-use Rattle.model.specs.Better.{cell, equal_in}
+use Rattle.model.specs.Better.{equal_in}
 use Rattle.model.specs.Query.{row_at}
 use Rattle.rows.specs.Group.{differs}
 use Rattle.rows.specs.Values.{Room, Valued}
@@ -17,10 +16,9 @@ pub record Cells (columns : ℕ) (rows : List ℤ) (n : ℕ) (values : List ℤ)
   pub valued : Valued columns rows n columns values
 
 -- After one column: a lane stays lit where the column is not of the group, or the values are equal.
-pub record Columned (left columns : ℕ) (rows : List ℤ) (n i b c : ℕ) (old new : List ℕ) : Type 0 where
+pub record Columned (group columns : ℕ) (rows : List ℤ) (n i b c : ℕ) (old new : List ℕ) : Type 0 where
   pub on : (j : ℕ) → j < 64 → b * 64 + j < n
-      → lit new j ≡ (lit old j
-      && not (eqb (left % 2) 1 && not (eq_z (cell (row_at columns rows i) c) (cell (row_at columns rows (b * 64 + j)) c))))
+      → lit new j ≡ (lit old j && not (differs group (row_at columns rows i) (row_at columns rows (b * 64 + j)) c))
   pub off : (j : ℕ) → j < 64 → lit old j ≡ false → lit new j ≡ false
 
 -- After c columns.

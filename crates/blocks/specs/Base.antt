@@ -1,29 +1,22 @@
 -- The codes of one row against the 64 rows of a block under base term k, whose values are the records from k + 1 to before e.
-use Rattle.std.specs.Prelude.{◌≡◌, Bool, true, false, List, ℕ, ◌+◌, ◌*◌, ◌-◌, ◌<◌, ◌≤◌, ℤ, pos, get_or, length}
+use Rattle.std.specs.Prelude.{◌≡◌, Bool, true, false, List, ℕ, ◌+◌, ◌*◌, ◌-◌, ◌<◌, ◌≤◌, ℤ, pos, get_or}
 use Rattle.model.specs.declared.{BaseTerm.BaseTerm}
 use Rattle.model.specs.declared.BaseTerm.TheVariants.{Explicit}
 use Rattle.laws.specs.Sound.{sound_base}
 use Rattle.laws.specs.Runs.{values_between}
 use Rattle.laws.specs.ValueCodes.{tests_code, value_code}
-use Rattle.terms.specs.Run.{Values}
 use Rattle.terms.specs.Prepared.{ReachedFrom}
 use Rattle.terms.specs.Places.{leads_to}
 use Rattle.ranks.specs.Rank.{RankAt}
 
 -- The row has value v, and x is its rank.
 pub record BaseAsked (table : List ℕ) (reach : List (List Bool)) (k e : ℕ) (t : BaseTerm) (x v : ℤ) : Type 0 where
-  pub values : Values table k e
   pub is_sound : sound_base t (values_between table k e) ≡ true
   pub reached : t ≡ Explicit → ReachedFrom table k e reach
   pub own : RankAt table k e t v x
 
--- The lanes' ranks stand from `at` on, their values from `from` on, and their codes go where record k has its 64.
-pub record BaseRoom (k : ℕ) (ranks : List ℤ) (at : ℕ) (values : List ℤ) (from : ℕ) (codes : List ℕ) : Type 0 where
-  pub ranks_end : at + 64 ≤ length ranks
-  pub values_end : from + 64 ≤ length values
-  pub codes_end : k * 64 + 64 ≤ length codes
-
--- Each lane whose rank is right has its code, and the codes of the records below stay.
+-- Each lane whose rank is right has its code, where record k has its 64, and the codes of the records below stay. The lanes'
+-- ranks stand from `at` on, their values from `from` on.
 pub record BaseCoded (table : List ℕ) (k e : ℕ) (t : BaseTerm) (ranks : List ℤ) (at : ℕ) (values : List ℤ) (from : ℕ) (v : ℤ)
     (old new : List ℕ) : Type 0 where
   pub made : (j : ℕ) → j < 64 → RankAt table k e t (get_or values (from + j) (pos 0)) (get_or ranks (at + j) (pos 0))

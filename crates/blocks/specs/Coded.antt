@@ -12,6 +12,7 @@ use Rattle.laws.specs.Accepted.{Accepted}
 use Rattle.laws.specs.AcceptedTable.{accepted-table}
 use Rattle.terms.specs.Prepared.{NextTerm}
 use Rattle.rows.specs.Places.{place_in}
+use Rattle.plan.specs.declared.vetted.exit_masks.{Exit.Exit}
 use Rattle.blocks.specs.Ready.{Ready, AtRecord, Coded}
 
 module _ {table : List ℕ} {marks : List Bool} {columns : ℕ} {rows : List ℤ} {n i b : ℕ} where
@@ -56,7 +57,7 @@ module _ {table : List ℕ} {marks : List Bool} {columns : ℕ} {rows : List ℤ
       }
 
 module _ {table : List ℕ} {numbers : List ℤ} {ends : List ℕ} {reach : List (List Bool)} {marks : List Bool}
-    {exits : List ℕ} {term columns : ℕ} {rows : List ℤ} {n stride : ℕ} {ranks values : List ℤ}
+    {exits : List Exit} {term columns : ℕ} {rows : List ℤ} {n stride : ℕ} {ranks values : List ℤ}
     (ready : Ready table numbers ends reach marks exits term columns rows n stride ranks values) where
   pub ok : Accepted table columns
   ok = ready.taken.is_accepted

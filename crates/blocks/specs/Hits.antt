@@ -23,6 +23,7 @@ use Rattle.laws.specs.Cases.{below_or_not}
 use Rattle.laws.specs.Elimination.{Apart}
 use Rattle.laws.proofs.Beats.{beats-one, beats-two}
 use Rattle.lanes.specs.Lit.{lit, hit}
+use Rattle.plan.specs.declared.vetted.exit_masks.{Exit.Exit}
 use Rattle.blocks.specs.Alive.{Cells, Alive}
 use Rattle.blocks.specs.Ready.{Ready}
 use Rattle.blocks.specs.Blocks.{AskedCoded}
@@ -102,7 +103,7 @@ module _ (t : Term) (s : sound t ≡ true) (w : within 8 t ≡ true) (columns : 
 -- ---- of a query that is ready
 
 module _ {table : List ℕ} {numbers : List ℤ} {ends : List ℕ} {reach : List (List Bool)} {marks : List Bool}
-    {exits : List ℕ} {term columns : ℕ} {rows : List ℤ} {n stride : ℕ} {ranks values : List ℤ}
+    {exits : List Exit} {term columns : ℕ} {rows : List ℤ} {n stride : ℕ} {ranks values : List ℤ}
     (ready : Ready table numbers ends reach marks exits term columns rows n stride ranks values) where
   -- Its cells by block.
   pub cells : Cells columns rows n values

@@ -6,3 +6,4 @@ pub mod Alive
 pub mod Rivals
 pub mod Hits
 pub mod Meets
+pub mod Props

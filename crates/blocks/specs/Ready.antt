@@ -7,6 +7,7 @@ use Rattle.model.specs.Query.{row_at}
 use Rattle.laws.specs.Codes.{code}
 use Rattle.laws.specs.Taken.{TakenTerm}
 use Rattle.terms.specs.Prepared.{Numbers, RunEnds, Reached}
+use Rattle.plan.specs.declared.vetted.exit_masks.{Exit.Exit}
 use Rattle.plan.specs.Exits.{Exits}
 use Rattle.rows.specs.Values.{Room, Valued}
 use Rattle.plan.specs.Beneath.{Marked}
@@ -14,7 +15,7 @@ use Rattle.ranks.specs.Ranked.{Ranked}
 
 -- A query's table, rows, ranks and values. A block takes `stride` of the ranks.
 pub record Ready (table : List ℕ) (numbers : List ℤ) (ends : List ℕ) (reach : List (List Bool)) (marks : List Bool)
-    (exits : List ℕ) (term columns : ℕ) (rows : List ℤ) (n stride : ℕ) (ranks values : List ℤ) : Type 0 where
+    (exits : List Exit) (term columns : ℕ) (rows : List ℤ) (n stride : ℕ) (ranks values : List ℤ) : Type 0 where
   pub taken : TakenTerm table columns term
   pub prepared : Numbers table numbers
   pub runs : RunEnds table ends

@@ -1,60 +1,49 @@
 // The codes of row i against the rows of block b under record k: a base record's come from ranks and values, a compound's from
-// its parts' codes and nothing else. The function asks what was prepared before.
+// its parts' codes and nothing else.
 ghost use Rattle.std.specs.Prelude.{◌+◌, ◌≤◌, length};
-ghost use Rattle.blocks.specs.Ready.{Ready, AtRecord, Coded};
+ghost use Rattle.blocks.specs.Ready.{AtRecord, Coded};
 
-use crate::base::base_codes;
+use crate::base::BaseBlock;
+use crate::vetted::prepared::Blocks;
 use lanes::vetted::compound::compound_lanes;
 use model::Record;
-use terms::vetted::values::decoded;
+use terms::vetted::run::Run;
 
-// The codes of record k, from those of the records below.
-pub fn record_codes(
-    table: &[u8],
-    numbers: &[i32; 256],
-    ends: &[u8; 128],
-    reach: &[[bool; 32]],
-    marks: &[bool; 128],
-    exits: &[u8; 128],
-    term: u8,
-    columns: usize,
-    rows: &[i32],
-    n: usize,
-    stride: usize,
-    ranks: &[i32],
-    values: &[i32],
-    i: usize,
-    b: usize,
-    k: u8,
-    codes: &mut [u8],
-)
-    requires { Ready table.now numbers.now ends.now reach.now marks.now exits.now term columns rows.now n stride ranks.now values.now × AtRecord marks.now term n i b k × (8192 ≤ length codes.old) × Coded table.now marks.now columns rows.now n i b k codes.old }
-    ensures { Coded table.now marks.now columns rows.now n i b (k + 1) codes.new }
-{
-    match decoded(table, numbers, k) {
-        Record::Value(_) => {}
-        Record::Base(column, t) => {
-            let at = k as usize;
-            let c = column as usize;
-            let x = ranks[i / 64 * stride + at * 64 + i % 64];
-            let v = values[i / 64 * 512 + c * 64 + i % 64];
-            let e = ends[at];
-            base_codes(
-                table,
-                reach,
-                k,
-                e,
-                t,
-                ranks,
-                b * stride + at * 64,
-                x,
-                values,
-                b * 512 + c * 64,
-                v,
-                codes,
-            );
+impl Blocks<'_> {
+    // The codes of record k, from those of the records below.
+    #[tactic(auto, using(crate::proofs::OfCompound::compound_coded))]
+    #[inline(always)]
+    pub(crate) fn record_codes(&self, i: usize, b: usize, k: u8, codes: &mut [u8])
+        requires here { AtRecord self.now.marks.now self.now.term self.now.rows.n i b k }
+        requires room { 8192 ≤ length codes.old }
+        requires below { Coded self.now.of.table.now self.now.marks.now self.now.rows.columns self.now.rows.cells.now
+            self.now.rows.n i b k codes.old }
+        ensures { Coded self.now.of.table.now self.now.marks.now self.now.rows.columns self.now.rows.cells.now
+            self.now.rows.n i b (k + 1) codes.new }
+    {
+        match self.of.record(k) {
+            Record::Base(column, base) => {
+                let at = (k as usize) * 64;
+                let from = (column as usize) * 64;
+                let block = BaseBlock {
+                    run: Run {
+                        of: self.of,
+                        k,
+                        e: self.ends[k as usize],
+                    },
+                    reach: self.reach,
+                    base,
+                    ranks: self.ranks,
+                    ranks_at: b * self.stride + at,
+                    rank: self.ranks[i / 64 * self.stride + at + i % 64],
+                    values: self.values,
+                    values_at: b * 512 + from,
+                    value: self.values[i / 64 * 512 + from + i % 64],
+                };
+                block.base_codes(codes);
+            }
+            Record::Compound(c) => compound_lanes(c, codes, k, 64),
+            Record::Value(_) | Record::Unknown => {}
         }
-        Record::Compound(c) => compound_lanes(c, codes, k, 64),
-        Record::Unknown => {}
     }
 }

@@ -1,4 +1,5 @@
 // Inner functions that other crates call. They are no public calls: each asks what was shown or prepared before.
-pub mod live;
-pub mod rivals;
-pub mod term;
+mod live;
+pub mod prepared;
+mod rivals;
+mod term;

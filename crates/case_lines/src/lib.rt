@@ -4,8 +4,8 @@
 // these, and a space before each name and number. u and v are 32-bit words: -1 is 4294967295.
 #![tactic(auto)]
 
-pub mod input;
 pub mod query_answers;
 pub mod query_lines;
 pub mod read;
 pub mod say;
+pub mod vetted;

@@ -1,142 +1,99 @@
 // What Query answers, in words: a reply and a buffer. Eight or more entries that are the same are said as `8*7777`, eight or
 // more that rise by one as `0..7`.
+ghost use Rattle.std.specs.Prelude.{◌<◌, ◌≤◌, length, IfOk};
+
 use crate::say;
-use model::{Place, QueryReply};
+use model::QueryReply;
 use std::io;
 
 // What every entry of a buffer holds before a call.
 const UNTOUCHED: u16 = 7777;
 
-pub fn clear(buffer: &mut [u16]) {
-    let mut i = 0;
-    while i < buffer.len() {
-        buffer[i] = UNTOUCHED;
-        i += 1;
-    }
+// The engine that a query goes by.
+#[derive(Clone, Copy)]
+pub enum Engine {
+    Direct,
+    Parts,
 }
 
-// Whether the answer of that turn is another one. Says both if so.
+// What a call gave: its reply, and what stands in the buffer after it.
+#[derive(Clone, Copy, PartialEq, Eq)]
+pub struct Given<'a> {
+    pub reply: QueryReply,
+    pub buffer: &'a [u16],
+}
+
+pub fn clear(buffer: &mut [u16]) {
+    buffer.fill(UNTOUCHED);
+}
+
+// Whether the answer of that engine for that group byte is another one. Says both if so.
 pub fn apart(
     rt: &impl Print,
-    reply: QueryReply,
-    known: &[u16],
-    turn: u64,
-    given: QueryReply,
-    other: &[u16],
+    known: Given,
+    group: u8,
+    engine: Engine,
+    given: Given,
 ) -> io::Result<bool> {
-    if same(reply, known, given, other) {
+    if known == given {
         return Ok(false);
     }
-    answer(rt, reply, known)?;
-    say::numbered(rt, b", APART in group :", 0, turn / 2)?;
-    if turn % 2 == 1 {
-        say::text(rt, b" by parts ")?;
-    } else {
-        say::text(rt, b" directly ")?;
-    }
-    answer(rt, given, other)?;
+    answer(rt, known)?;
+    let by = match engine {
+        Engine::Direct => "directly",
+        Engine::Parts => "by parts",
+    };
+    print!(rt; ", APART in group {group} {by} ")?;
+    answer(rt, given)?;
     Ok(true)
 }
 
-// Whether two answers are the same, reply and buffer.
-fn same(a: QueryReply, x: &[u16], b: QueryReply, y: &[u16]) -> bool {
-    (number(a) == number(b)) & same_entries(x, y)
-}
-
-fn same_entries(x: &[u16], y: &[u16]) -> bool {
-    let mut i = 0;
-    while i < x.len() {
-        if i >= y.len() {
-            return false;
-        }
-        if x[i] != y[i] {
-            return false;
-        }
-        i += 1;
+pub fn answer(rt: &impl Print, given: Given) -> io::Result<()> {
+    match given.reply {
+        Ok(n) => print!(rt; "kept {n}")?,
+        Err(why) => say::refused(rt, why)?,
     }
-    i == y.len()
-}
-
-// A number for each reply.
-fn number(reply: QueryReply) -> u64 {
-    match reply {
-        QueryReply::Kept(n) => n as u64,
-        QueryReply::Refused(why) => place(
-            table::refusals::number(why) % 32,
-            table::refusals::place(why),
-        ),
+    if !given.buffer.is_empty() {
+        print!(rt; ":")?;
     }
-}
-
-fn place(refusal: u32, at: Place) -> u64 {
-    match at {
-        Place::Nowhere => 65536 * (refusal as u64),
-        Place::At(k) => 65536 * (refusal as u64) + 1 + k as u64,
-    }
-}
-
-pub fn answer(rt: &impl Print, reply: QueryReply, buffer: &[u16]) -> io::Result<()> {
-    match reply {
-        QueryReply::Kept(n) => {
-            say::numbered(rt, b"kept :", 0, n as u64)?;
-        }
-        QueryReply::Refused(why) => say::refused(rt, why)?,
-    }
-    if buffer.len() > 0 {
-        say::text(rt, b":")?;
-    }
-    entries(rt, buffer)
+    entries(rt, given.buffer)
 }
 
 fn entries(rt: &impl Print, buffer: &[u16]) -> io::Result<()> {
-    let mut i = 0;
-    while i < buffer.len() {
-        let end = run(rt, buffer, i)?;
-        if end <= i {
-            return Ok(());
-        }
-        i = end;
+    let mut rest = buffer;
+    while !rest.is_empty() {
+        rest = run(rt, rest)?;
     }
     Ok(())
 }
 
-// Says the run of entries that begins at i. Returns the place after it.
-fn run(rt: &impl Print, buffer: &[u16], i: usize) -> io::Result<usize> {
-    if i >= buffer.len() {
-        return Ok(i);
+// Says the run of entries that comes first. Returns those after it.
+fn run<'a>(rt: &impl Print, entries: &'a [u16]) -> io::Result<&'a [u16]>
+    requires { 0 < length entries.now }
+    ensures { IfOk result (λ rest. length rest.now < length entries.now) }
+{
+    let first = entries[0];
+    let alike = growing(entries, 0);
+    if alike >= 8 {
+        print!(rt; " {alike}*{first}")?;
+        return Ok(&entries[alike..]);
     }
-    let e = wide(buffer[i]);
-    let alike = stops(buffer, i, 0);
-    if alike >= 8 + i {
-        say::numbered(rt, b" :", 0, (alike - i) as u64)?;
-        say::numbered(rt, b"*:", 0, e)?;
-        return Ok(alike);
+    let rising = growing(entries, 1);
+    if rising >= 8 {
+        print!(rt; " {first}..{}", entries[rising - 1])?;
+        return Ok(&entries[rising..]);
     }
-    let rising = stops(buffer, i, 1);
-    if rising >= 8 + i {
-        say::numbered(rt, b" :", 0, e)?;
-        say::numbered(rt, b"..:", 0, e % 65536 + ((rising - i - 1) % 65536) as u64)?;
-        return Ok(rising);
-    }
-    say::numbered(rt, b" :", 0, e)?;
-    Ok(i + 1)
+    print!(rt; " {first}")?;
+    Ok(&entries[1..])
 }
 
-// Where the entries from i on stop growing by `step`.
-fn stops(buffer: &[u16], i: usize, step: u16) -> usize {
-    let mut j = i;
-    let mut next = 0u64;
-    while j < buffer.len() {
-        let e = wide(buffer[j]);
-        if (j > i) & (e != next) {
-            return j;
-        }
-        next = e % 65536 + step as u64;
-        j += 1;
+// How many of the entries, from the first on, grow by `step` each.
+fn growing(entries: &[u16], step: u16) -> usize
+    ensures { result ≤ length entries.now }
+{
+    let mut pairs = entries.iter().zip(entries.iter().skip(1));
+    match pairs.position(|(a, b)| *a as u32 + step as u32 != *b as u32) {
+        Some(i) => i + 1,
+        None => entries.len(),
     }
-    j
-}
-
-fn wide(entry: u16) -> u64 {
-    entry as u64
 }

@@ -1,118 +1,188 @@
-// A case's numbers, read from its line into cells: those of the head from cell 64 on, of the rows from 128 and 144 on, of
-// the records from 192 on, 16 cells to each. The first number of each is in its second cell. A cell with a number n has
-// 4 n + 2, or 4 n + 3 for -n; one with a name has the last letter's byte, times 4; one with neither has 0. Cell 0 has the
-// place of the cell that the line has come to.
+// A case's names and numbers, read from its line into cells: those of the head from cell 64 on, of the rows from 128 and 144
+// on, of the records from 192 on, 16 cells to each. The first of each is in its second cell.
+ghost use Rattle.std.specs.Prelude.{◌<◌, ◌≤◌, length};
 
-// The line from `at` on goes into the cells. Returns the place after the line.
-pub fn cells(text: &[u8], at: usize, cells: &mut [u64; 4096]) -> usize {
-    let mut i = at;
-    while i < text.len() {
-        let b = text[i];
-        i += 1;
-        if b == b'\n' {
-            return i;
+// So many cells has a line.
+const CELLS: usize = 4096;
+
+const BITS_32: u64 = 1 << 32;
+
+#[derive(Clone, Copy, PartialEq, Eq)]
+pub enum Cell {
+    Empty,
+    // A name, by the byte of its last letter.
+    Name(u8),
+    // The digits after a name's letter go on from its byte.
+    Number(u64),
+    // The number's digits after a minus.
+    Minus(u64),
+}
+
+impl Cell {
+    // The number, a negative one as a word of 32 bits.
+    pub fn number(self) -> u64 {
+        match self {
+            Cell::Empty => 0,
+            Cell::Name(letter) => letter as u64,
+            Cell::Number(n) => n,
+            Cell::Minus(n) => BITS_32 - n % BITS_32,
         }
-        put(cells, b);
     }
-    i
-}
 
-// The table's bytes.
-pub fn table(cells: &[u64; 4096], t: &mut [u8]) {
-    let mut i = 0;
-    while i < t.len() {
-        let b = byte(cells, i);
-        t[i] = b;
-        i += 1;
+    // Its low 32 bits.
+    pub fn word(self) -> u32 {
+        (self.number() % BITS_32) as u32
     }
-}
 
-// The numbers of the row whose first number is in cell `from`. Returns how many.
-pub fn row(cells: &[u64; 4096], from: usize, numbers: &mut [i32]) -> usize {
-    let mut i = 0;
-    while i < numbers.len() {
-        let c = from % 2048 + i % 2048;
-        if cells[c] == 0 {
-            return i;
+    // The cell with one more letter, sign or digit: a letter or a sign begins it anew.
+    fn with(self, b: u8) -> Self {
+        match b {
+            b'a'.. => Cell::Name(b),
+            b'0'.. => {
+                let digit = (b - b'0') as u64;
+                match self {
+                    Cell::Minus(n) => Cell::Minus(longer(n, digit)),
+                    other => Cell::Number(longer(other.number(), digit)),
+                }
+            }
+            b'-' => Cell::Minus(0),
+            _ => self,
         }
-        let n = signed(number(cells, c));
-        numbers[i] = n;
-        i += 1;
     }
-    i
 }
 
-// The table's length in bytes: the number in cell i, or 12 to a record where that is 0.
-pub fn length(cells: &[u64; 4096], i: usize) -> usize {
-    let given = number(cells, i) as usize;
-    if given > 0 {
-        return given;
-    }
-    12 * (((cells[0] % 4096 + 4096 - 192 + 15) / 16 % 256) as usize)
+fn longer(n: u64, digit: u64) -> u64
+    requires { digit ≤ 256 }
+{
+    10 * (n % 1000000000000) + digit
 }
 
-// The number in cell i, a negative one as a word of 32 bits.
-pub fn number(cells: &[u64; 4096], i: usize) -> u64 {
-    let cell = cells[i % 4096];
-    if cell % 2 == 1 {
-        return 4294967296 - cell / 4 % 4294967296;
-    }
-    cell / 4
+// The cells of a line, and the place of the one that the line has come to.
+#[derive(Drop)]
+pub struct Cells {
+    at: usize,
+    cells: [Cell; CELLS],
 }
 
-// A byte of the line goes to the cell that the one before it went to, or to the one that it begins.
-fn put(cells: &mut [u64; 4096], b: u8) {
-    let to = next(cells[0], b);
-    cells[0] = to;
-    let i = (to % 4096) as usize;
-    let c = with(cells[i], b);
-    cells[i] = c;
+impl Cells {
+    // The cells of a line whose first byte goes on from cell `from`.
+    pub fn read(line: &[u8], from: usize) -> Self {
+        let mut cells = Cells {
+            at: from,
+            cells: [Cell::Empty; CELLS],
+        };
+        for b in line {
+            cells.put(*b);
+        }
+        cells
+    }
+
+    // A byte of the line goes to the cell that the one before it went to, or to the one that it begins.
+    fn put(&mut self, b: u8) {
+        let to = next(self.at % CELLS, b);
+        if to % CELLS == 0 {
+            self.at = turned(to, b);
+        } else {
+            self.at = to;
+            self.cells[to] = self.cells[to].with(b);
+        }
+    }
+
+    // The cell at a place.
+    pub fn cell(&self, place: usize) -> Cell {
+        if place % CELLS == 0 {
+            return counted(self.at);
+        }
+        self.cells[place % CELLS]
+    }
+
+    pub fn number(&self, place: usize) -> u64 {
+        self.cell(place).number()
+    }
+
+    pub fn word(&self, place: usize) -> u32 {
+        self.cell(place).word()
+    }
+
+    pub fn set(&mut self, place: usize, cell: Cell) {
+        self.cells[place % CELLS] = cell;
+    }
+
+    // The table's bytes.
+    pub fn table(&self) -> [u8; 1560] {
+        let mut bytes = [0u8; 1560];
+        for (i, byte) in bytes.iter_mut().enumerate() {
+            *byte = self.byte(i / 12, i % 12);
+        }
+        bytes
+    }
+
+    // A byte of a record: four fields of one byte, and two words, low byte first.
+    fn byte(&self, record: usize, i: usize) -> u8
+        requires { i < 12 }
+    {
+        let first = 193 + 16 * (record % 256);
+        match i {
+            0..4 => self.word(first + i).to_le_bytes()[0],
+            4..8 => self.word(first + 4).to_le_bytes()[i - 4],
+            _ => self.word(first + 5).to_le_bytes()[i - 8],
+        }
+    }
+
+    // The numbers of the row whose first number is in cell `from`. Returns how many.
+    pub fn row(&self, from: usize, numbers: &mut [i32]) -> usize
+        ensures { result ≤ length numbers.new }
+    {
+        for (i, number) in numbers.iter_mut().enumerate() {
+            let cell = self.cell(from % 2048 + i % 2048);
+            if cell == Cell::Empty {
+                return i;
+            }
+            *number = cell.word().cast_signed();
+        }
+        numbers.len()
+    }
+
+    // The table's length in bytes: the number at a place, or 12 to a record where that is 0.
+    pub fn length(&self, place: usize) -> usize {
+        match self.number(place) {
+            0 => 12 * ((self.at % CELLS + CELLS - 192).div_ceil(16) % 256),
+            given => given as usize,
+        }
+    }
 }
 
-fn next(cell: u64, b: u8) -> u64 {
-    let c = cell % 4096;
-    if b == b' ' {
-        return c + 1;
+// The cell that a byte goes to, after one that went to cell `at`.
+fn next(at: usize, b: u8) -> usize
+    requires { at < 4096 }
+    ensures { result ≤ 4096 }
+{
+    match b {
+        b' ' => at + 1,
+        b',' => at - at % 16 + 16,
+        b':' => at - at % 64 + 64,
+        _ => at,
     }
-    if b == b',' {
-        return 16 * (c / 16) + 16;
-    }
-    if b == b':' {
-        return 64 * (c / 64) + 64;
-    }
-    c
 }
 
-// A cell with one more letter, sign or digit.
-fn with(cell: u64, b: u8) -> u64 {
-    if b >= b'a' {
-        return 4 * (b as u64);
+// As it is: what a line too long for the cells gives may not change. It comes to cell 0, which counts the cells: this is where
+// a byte that goes there sends the line on to, and `counted` is what that cell has.
+fn turned(to: usize, b: u8) -> usize
+    requires { to ≤ 4096 }
+{
+    match b {
+        b'a'.. => 4 * b as usize,
+        b'0'.. => 10 * to + 4 * (b - b'0') as usize + 2,
+        b'-' => 3,
+        _ => to,
     }
-    if b >= b'0' {
-        return 40 * (cell / 4 % 1000000000000) + 4 * ((b - b'0') as u64) + cell % 2 + 2;
-    }
-    if b == b'-' {
-        return 3;
-    }
-    cell
 }
 
-// Byte i of the table. Of a record's 12 the first four are fields and the others two words, low byte first: a hexadecimal
-// digit for each, the first at the right, says which number of the record it is of, and which byte of that.
-fn byte(cells: &[u64; 4096], i: usize) -> u8 {
-    let j = 4 * (i % 12);
-    let field = (0x666655554321usize >> j) % 16;
-    let low = (0x321032100000usize >> j) % 4;
-    let n = number(cells, 192 + 16 * (i / 12 % 256) + field);
-    ((n >> (8 * low)) % 256) as u8
-}
-
-// Two's complement.
-fn signed(number: u64) -> i32 {
-    let word = number % 4294967296;
-    if word < 2147483648 {
-        return word as i32;
+fn counted(at: usize) -> Cell {
+    let n = (at / 4) as u64;
+    match at {
+        0 => Cell::Empty,
+        _ if at % 2 == 1 => Cell::Minus(n),
+        _ => Cell::Number(n),
     }
-    let m = 4294967295 - word;
-    -1 - (m as i32)
 }

@@ -3,67 +3,36 @@
 // records.
 #![tactic(auto)]
 
-use case_lines::{input, read, say};
+use case_lines::read::Cells;
+use case_lines::say;
+use case_lines::vetted::input::each_case;
 use model::{CheckReply, Summary};
 use std::io;
 
 fn main(rt: HostRuntime) -> io::Result<()> {
-    let mut text = buffer();
-    let n = input::read_full(&mut rt.reader(), &mut text)?;
-    cases(&rt, &text[..n])
-}
-
-fn buffer() -> [u8; 65536] {
-    [0; 65536]
-}
-
-fn cases(rt: &impl Print, text: &[u8]) -> io::Result<()> {
-    let mut at = 0;
-    while at < text.len() {
-        let end = case(rt, text, at)?;
-        if end <= at {
-            return Ok(());
-        }
-        at = end;
-    }
-    Ok(())
+    let mut buffer = [0; 65536];
+    each_case(&rt, &mut buffer, |line| answer(&rt, line))
 }
 
 // The head of a case of the check has no rows after it: it stands in the cells of the rows.
-fn case(rt: &impl Print, text: &[u8], at: usize) -> io::Result<usize> {
-    let mut cells = [0u64; 4096];
-    cells[0] = 128;
-    let end = read::cells(text, say::words(rt, text, at)?, &mut cells);
-    answer(rt, &cells)?;
-    say::text(rt, b"\n")?;
-    Ok(end)
-}
-
-fn answer(rt: &impl Print, cells: &[u64; 4096]) -> io::Result<()> {
-    let mut t = [0u8; 1560];
-    read::table(cells, &mut t);
-    let n = read::length(cells, 130);
-    if n <= 1560 {
-        reply(
-            rt,
-            table::check(&t[0..n], read::number(cells, 129) as usize),
-        )?;
+fn answer(rt: &impl Print, line: &[u8]) -> io::Result<()> {
+    let cells = Cells::read(line, 128);
+    match cells.table().get(..cells.length(130)) {
+        Some(bytes) => reply(rt, table::check(bytes, cells.number(129) as usize)),
+        None => Ok(()),
     }
-    Ok(())
 }
 
 fn reply(rt: &impl Print, given: CheckReply) -> io::Result<()> {
     match given {
-        CheckReply::Accepted(s) => accepted(rt, s),
-        CheckReply::Refused(why) => say::refused(rt, why),
+        Ok(s) => accepted(rt, s),
+        Err(why) => say::refused(rt, why),
     }
 }
 
 fn accepted(rt: &impl Print, s: Summary) -> io::Result<()> {
-    let words = b"accepted records : top : columns : count :";
-    let top = say::numbered(rt, words, 0, s.records as u64)?;
-    let columns = say::numbered(rt, words, top, s.top as u64)?;
-    let count = say::numbered(rt, words, columns, s.columns as u64)?;
-    say::numbered(rt, words, count, s.count as u64)?;
-    Ok(())
+    print!(rt;
+        "accepted records {} top {} columns {} count {}",
+        s.records, s.top, s.columns, s.count
+    )
 }

@@ -1,11 +1,11 @@
 -- The codes of the records up to the asked term, as one loop upward finds them, are those of their terms. Assumes nothing.
-use mathlib.Core.Path.{◌≡◌, refl, sym, ap}
+use mathlib.Core.Path.{◌≡◌, refl, sym, ap, ◌∙◌}
 use mathlib.Core.Bool.{Bool, true, false≢true}
 use mathlib.Core.List.{List}
-use Prim.Native.Nat.{ℕ, ◌<◌, ◌≤◌}
+use Prim.Native.Nat.{ℕ, ◌+◌, ◌<◌, ◌≤◌}
 use native.Mathlib.Omega.{arith}
 use lib.IntN.{ℤ}
-use lib.ListN.{get_or}
+use lib.ListN.{length, get_or, set}
 use Rattle.model.specs.declared.{BaseTerm.BaseTerm, CompoundTerm.CompoundTerm, Record.Record}
 use Rattle.model.specs.declared.CompoundTerm.TheVariants.{Joined, Dual}
 use Rattle.model.specs.declared.Record.TheVariants.{Base, Compound, Unknown}
@@ -13,6 +13,7 @@ use Rattle.model.specs.Record.{record_count, record_at, is_term}
 use Rattle.model.specs.Term.{term_at}
 use Rattle.model.specs.Better.{Row}
 use Rattle.laws.specs.Sound.{sound_base, sound}
+use Rattle.laws.specs.Fill.{fill_more}
 use Rattle.laws.specs.Runs.{values_between}
 use Rattle.laws.specs.Outcome.{outcome-base}
 use Rattle.laws.specs.Codes.{code_of, code}
@@ -28,12 +29,12 @@ use Rattle.compare.specs.Rows.{Asked, Ready, PartsBelow, RecordReady, record_cod
 -- The asked term is one of at most 128 records.
 pub term-below : (table : List ℕ) (term : ℕ) (x y : Row) → Asked table term x y → term < 128
 term-below table term x y a =
-    omega (arith, a.taken.below, (accepted-table table a.columns a.taken.is_accepted).few_records)
+    omega (arith, a.taken.below, (accepted-table table (length x) a.taken.is_accepted).few_records)
 
 module _ (table : List ℕ) (numbers : List ℤ) (ends : List ℕ) (reach : List (List Bool)) (term : ℕ) (x y : Row)
     (ready : Ready table numbers ends reach term x y) (k : ℕ) (h : k ≤ term) where
   abbrev columns : ℕ
-  columns = ready.asked.columns
+  columns = length x
 
   ok : Accepted table columns
   ok = ready.asked.taken.is_accepted
@@ -72,7 +73,6 @@ module _ (table : List ℕ) (numbers : List ℤ) (ends : List ℕ) (reach : List
   record-ready =
       record {
         below = omega (arith, below, (accepted-table table columns ok).few_records);
-        prepared = ready.prepared;
         of_base = λ column b e. (
           record {
             values = (run (ap is_term e)).values;
@@ -80,8 +80,8 @@ module _ (table : List ℕ) (numbers : List ℤ) (ends : List ℕ) (reach : List
             is_sound = base-sound column b e;
             reached = λ q. ready.reached.each k column below (rw q at e);
           },
-          rw ready.asked.first_fits (of-base column b e).below,
-          rw ready.asked.second_fits (of-base column b e).below,
+          (of-base column b e).below,
+          rw ready.asked.same_length (of-base column b e).below,
         );
         of_compound = parts_below;
       }
@@ -109,7 +109,15 @@ module _ (table : List ℕ) (numbers : List ℤ) (ends : List ℕ) (reach : List
     by_kind Unknown e t = absurd (false≢true t)
 
     -- A term record's code from those of the records below is that of its term.
-    pub code-next : is_term (record_at table k) ≡ true
+    code-next : is_term (record_at table k) ≡ true
         → record_code (record_at table k) (values_between table k (get_or ends k 0)) (λ i. get_or codes i 0) x y
         ≡ code (term_at table k) x y
     code-next t = by_kind (record_at table k) refl t
+
+    -- So the array with that code more holds the codes of the term records up to k.
+    pub codes-more : (m : ℕ) → k < length codes
+        → m ≡ record_code (record_at table k) (values_between table k (get_or ends k 0)) (λ i. get_or codes i 0) x y
+        → (i : ℕ) → i < k + 1 → is_term (record_at table i) ≡ true → get_or (set codes k m) i 0 ≡ code (term_at table i) x y
+    codes-more m l is =
+        fill_more 0 (λ i v. is_term (record_at table i) ≡ true → v ≡ code (term_at table i) x y) codes k m l right
+        (λ t. is ∙ code-next t)

@@ -12,12 +12,10 @@ use Rattle.terms.specs.Prepared.{Numbers, RunEnds, Reached}
 use Rattle.laws.specs.ValueCodes.{value_code}
 use Rattle.terms.specs.Places.{BaseTermAt}
 
--- The number given is a term record of an accepted table, and the rows are of the count's length.
+-- The number given is a term record of a table that is accepted for rows of the first one's length, and the second has it too.
 pub record Asked (table : List ℕ) (term : ℕ) (first second : Row) : Type 0 where
-  pub columns : ℕ
-  pub taken : TakenTerm table columns term
-  pub first_fits : length first ≡ columns
-  pub second_fits : length second ≡ columns
+  pub taken : TakenTerm table (length first) term
+  pub same_length : length second ≡ length first
 
 -- The same, and what is prepared of the table's values is handed in.
 pub record Ready (table : List ℕ) (numbers : List ℤ) (ends : List ℕ) (reach : List (List Bool)) (term : ℕ)
@@ -36,7 +34,6 @@ PartsBelow limit (Dual p) = p < limit
 pub record RecordReady (table : List ℕ) (numbers : List ℤ) (ends : List ℕ) (reach : List (List Bool)) (k : ℕ)
     (first second : Row) : Type 0 where
   pub below : k < 128
-  pub prepared : Numbers table numbers
   pub of_base : (column : ℕ) (b : BaseTerm) → record_at table k ≡ Base column b
       → BaseTermAt table numbers reach k (get_or ends k 0) b × (column < length first) × (column < length second)
   pub of_compound : (c : CompoundTerm) → record_at table k ≡ Compound c → PartsBelow 128 c

@@ -9,7 +9,7 @@ ghost use Rattle.std.specs.Prelude.{◌≡◌};
 ghost use Rattle.model.specs.Compare.{compare_reply};
 
 use crate::compared::compared;
-use model::{CompareReply, Verdict};
+use model::CompareReply;
 use table::vetted::asked::term_verdict;
 
 // Compare: same, first better, second better or unranked; or the first refusal of 1 to 16 with its place. It takes any bytes,
@@ -24,9 +24,6 @@ pub fn compare(
     ensures { result ≡ compare_reply table.now columns term first.now second.now }
 {
     let unfit = (first.len() != columns) | (second.len() != columns);
-    let verdict = term_verdict(table, columns, unfit, term);
-    match verdict {
-        Verdict::Refused(why) => CompareReply::Refused(why),
-        Verdict::Passed => CompareReply::Compared(compared(table, term as u8, first, second)),
-    }
+    term_verdict(table, columns, unfit, term)?;
+    Ok(compared(table, term as u8, first, second))
 }

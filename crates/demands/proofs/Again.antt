@@ -11,7 +11,9 @@ use lib.IntN.{ℤ}
 use lib.ListN.{length, get_or, take}
 use lib.Seq.{get_or-take}
 use borrow.Author.Tests.{ltb-true}
-use Rattle.model.specs.declared.{Refusal.Refusal, QueryReply.QueryReply}
+use Rattle.std.specs.Prelude.{Ok, Err}
+use Rattle.model.specs.Words.{QueryReply}
+use Rattle.model.specs.declared.Refusal.{Refusal}
 use Rattle.model.specs.Search.{list_below}
 use Rattle.model.specs.Query.{row_count, query_reply, query_buffer}
 use Rattle.model.specs.Leaving.{left_rows, old_number}
@@ -75,7 +77,7 @@ module _ (columns : ℕ) (rows : List ℤ) (stays : ℕ → Bool) (m : ℕ) (lef
       (ex : x ≡ query_reply table columns (take (m * columns) left) term group before)
       (ea : after ≡ query_buffer table columns (take (m * columns) left) term group before) where
     -- Where it refuses nothing there is an entry for each of them, and one for each of their old numbers.
-    pub numbers-within : (kept : ℕ) → x ≡ QueryReply.Kept kept → OldNumbers old m entries after
+    pub numbers-within : (kept : ℕ) → x ≡ Ok kept → OldNumbers old m entries after
     unfolding old_number
     numbers-within kept k =
         let b = replied-answers table columns (take (m * columns) left) term group before after x ex ea kept k in
@@ -152,13 +154,13 @@ module _ (table : List ℕ) (columns : ℕ) (rows : List ℤ) (term group : ℕ)
   reply = query_reply table columns rows term group a
 
   -- It refuses something,
-  pub said-refused : (why : Refusal) → x ≡ QueryReply.Refused why → (so : ℕ → Bool) (then : ℕ → List ℕ)
+  pub said-refused : (why : Refusal) → x ≡ Err why → (so : ℕ → Bool) (then : ℕ → List ℕ)
       → (false ≡ by_reply reply so false) × (b ≡ by_reply reply then b)
   said-refused why e so then = (rw (sym ex ∙ e), rw (sym ex ∙ e))
 
   -- or nothing: what is found of the rows of which one test holds is so of those of another that agrees.
   pub said-kept : (p q : ℕ → Bool) → ((i : ℕ) → i < row_count columns rows → p i ≡ q i)
-      → (total : ℕ) → x ≡ QueryReply.Kept total → (r : Bool) (again : List ℕ)
+      → (total : ℕ) → x ≡ Ok total → (r : Bool) (again : List ℕ)
       → r ≡ same_twice table columns rows term group p total after b
       → again ≡ queried_twice table columns (left_rows columns rows p) term group b
       → (r ≡ by_reply reply

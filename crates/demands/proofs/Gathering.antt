@@ -1,37 +1,18 @@
--- The rows that are left, gathered row by row and cell by cell. Assumes nothing.
+-- The rows that are left, gathered row by row. Assumes nothing.
 use mathlib.Core.Path.{◌≡◌, refl}
 use mathlib.Core.Bool.{Bool, true, false}
-use mathlib.Core.List.{List, [], ◌∷◌, ◌++◌, append_assoc, append-nil}
-use Prim.Native.Nat.{ℕ, suc, ◌+◌, ◌*◌, ◌<◌, ◌≤◌}
+use mathlib.Core.List.{List, [], ◌∷◌, ◌++◌, append-nil}
+use Prim.Native.Nat.{ℕ, suc, ◌+◌, ◌*◌, ◌≤◌}
 use native.Mathlib.Nat.{mul-le-mul, add-zero}
 use native.Mathlib.Omega.{arith}
 use native.Mathlib.Numerals.{add-one}
-use lib.IntN.{ℤ, pos}
-use lib.ListN.{length, get_or, take, drop, set, length-drop}
-use lib.Seq.{take-suc, take-suc-set, get_or-drop}
+use lib.IntN.{ℤ}
+use lib.ListN.{take}
 use Rattle.model.specs.Search.{count_below, list_below}
 use Rattle.model.specs.Query.{row_at}
 use Rattle.model.specs.Leaving.{left_below}
 use Rattle.laws.specs.Search.{count-bound}
 use Rattle.demands.specs.Gathered.{Placed, Gathered}
-
--- One cell more of a stretch, after what is there.
-pub copied : (rows start left : List ℤ) (from to j : ℕ) {v : ℤ} → v ≡ get_or rows (from + j) (pos 0)
-    → to + j < length left → from + j < length rows
-    → take (to + j) left ≡ take to start ++ take j (drop from rows)
-    → take (to + (j + 1)) (set left (to + j) v) ≡ take to start ++ take (j + 1) (drop from rows)
-copied rows start left from to j {v} e room inside h =
-    let q : to + (j + 1) ≡ suc (to + j) = omega arith in
-    rw (
-      q,
-      take-suc-set left (to + j) v room,
-      h,
-      add-one j,
-      take-suc (drop from rows) j (pos 0) (omega (arith, length-drop from rows)),
-      get_or-drop from rows j (pos 0),
-      e,
-    )
-    (append_assoc (take to start) (take j (drop from rows)) (get_or rows (from + j) (pos 0) ∷ []))
 
 -- There is room for a row of up to 8 cells after fewer than 1,024.
 pub placed-small : (columns : ℕ) (rows : List ℤ) (k m : ℕ) → Placed columns rows k m → m * columns + columns ≤ 8192

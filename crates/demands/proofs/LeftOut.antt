@@ -1,17 +1,17 @@
 -- What is said of rows left out and of two catalogues holds of the calls' replies and buffers. Assumes nothing.
 use mathlib.Core.Path.{◌≡◌, refl, ◌∙◌, ap}
 use mathlib.Core.Logic.{⊎_elim}
-use mathlib.Core.Bool.{Bool, true, not}
+use mathlib.Core.Bool.{Bool, true, not, cond}
 use mathlib.Core.List.{List, ◌++◌}
-use Prim.Native.Nat.{ℕ, ◌+◌, ◌*◌, ◌-◌, ◌<◌, ◌≤◌}
-use native.Mathlib.Nat.{add-mul}
+use Prim.Native.Nat.{ℕ, min, ◌+◌, ◌*◌, ◌-◌, ◌<◌, ◌≤◌}
+use native.Mathlib.Nat.{add-mul, le_antisymm, min-le_left, min-le_right, le-min}
 use native.Mathlib.Omega.{arith}
 use lib.Dec.{ltb}
 use lib.IntN.{ℤ}
 use lib.ListN.{length, get_or, take, drop, replicate, length-drop, length-replicate, take-append-drop}
 use lib.Seq.{length-take-le}
-use borrow.Author.Tests.{ltb-true, lt-ltb, eq-eqb}
-use Rattle.model.specs.declared.{QueryReply.QueryReply}
+use borrow.Author.Tests.{ltb-true, ltb-false, lt-ltb, eq-eqb}
+use Rattle.std.specs.Prelude.{Ok}
 use Rattle.model.specs.Search.{count_below, list_below}
 use Rattle.model.specs.Query.{row_count, query_reply, query_buffer}
 use Rattle.model.specs.Demand.{keeps}
@@ -69,7 +69,7 @@ module _ (table : List ℕ) (columns : ℕ) (rows : List ℤ) (term group : ℕ)
         and_i (lt-ltb (get_or again i 0) m (same.is_entry i h)) (eq-eqb _ _ (same.same_entry i h))
 
     -- So says the test of a query,
-    answers-same : (total : ℕ) → query_reply table columns rows term group a ≡ QueryReply.Kept total
+    answers-same : (total : ℕ) → query_reply table columns rows term group a ≡ Ok total
         → same_answers table columns rows term group stays total entries b ≡ true
     unfolding same_answers same_by_number
     answers-same total e =
@@ -84,7 +84,7 @@ module _ (table : List ℕ) (columns : ℕ) (rows : List ℤ) (term group : ℕ)
 
   -- So says the test of both.
   twice_same : (b : List ℕ) → n ≤ length b
-      → (total : ℕ) → query_reply table columns rows term group a ≡ QueryReply.Kept total
+      → (total : ℕ) → query_reply table columns rows term group a ≡ Ok total
       → same_twice table columns rows term group stays total entries b ≡ true
   unfolding same_twice
   twice_same b h total e =
@@ -156,6 +156,15 @@ module _ (table : List ℕ) (columns : ℕ) (rows first second : List ℤ) (c d 
       (omega (arith, first-counted, second-count, few)) zeros (query_buffer table columns first term group zeros)
       first-long second-long a (rw whole long) i (rw whole h) (rw whole k) in
       rw first-counted at e
+
+-- The lesser of two counts, by the test which it is.
+pub min-is : (split n : ℕ) → min split n ≡ cond (ltb split n) split n
+min-is split n =
+    ⊎_elim
+    (λ t. let h : split ≤ n = omega (arith, ltb-true split n t) in
+    rw t (le_antisymm (min-le_left split n) (le-min (omega arith) h)))
+    (λ t. rw t (le_antisymm (min-le_right split n) (le-min (omega (arith, ltb-false split n t)) (omega arith))))
+    (on-or-off (ltb split n))
 
 -- The first catalogue has no more rows than there are.
 pub first-within : (columns : ℕ) (rows : List ℤ) (split : ℕ) → first_count columns rows split ≤ row_count columns rows

@@ -5,7 +5,8 @@ use mathlib.Core.List.{List}
 use Prim.Native.Nat.{ℕ}
 use lib.Dec.{ltb}
 use lib.ListN.{length}
-use Rattle.model.specs.declared.{Outcome.Outcome, CompareReply.CompareReply}
+use Rattle.std.specs.Prelude.{Ok}
+use Rattle.model.specs.declared.Outcome.{Outcome}
 use Rattle.model.specs.declared.Outcome.TheVariants.{Same, First, Second, Unranked}
 use Rattle.model.specs.Term.{term_at}
 use Rattle.model.specs.Better.{Row}
@@ -23,14 +24,14 @@ use Rattle.demands.proofs.Numbered.{is_one}
 use Rattle.theorems.specs.Ordered.{taken}
 
 turned-numbers : (o : Outcome)
-    → gives_turned (CompareReply.Compared o) (CompareReply.Compared (turned o)) ≡ true
+    → gives_turned (Ok o) (Ok (turned o)) ≡ true
 unfolding gives_turned
 turned-numbers Same = refl
 turned-numbers First = refl
 turned-numbers Second = refl
 turned-numbers Unranked = refl
 
-below-four : (o : Outcome) → ltb (number_given (CompareReply.Compared o)) 4 ≡ true
+below-four : (o : Outcome) → ltb (number_given (Ok o)) 4 ≡ true
 below-four Same = refl
 below-four First = refl
 below-four Second = refl
@@ -43,7 +44,7 @@ if-then false q f = refl
 module _ (table : List ℕ) (columns term : ℕ) (t : TermRecord table columns term) (x y z : Row)
     (fx : length x ≡ columns) (fy : length y ≡ columns) (fz : length z ≡ columns) where
   given : (x y : Row) → length x ≡ columns → length y ≡ columns
-      → compare_reply table columns term x y ≡ CompareReply.Compared (outcome (term_at table term) x y)
+      → compare_reply table columns term x y ≡ Ok (outcome (term_at table term) x y)
   given = compared-reply table columns term (taken table columns term t)
 
   -- A row against itself gives same;

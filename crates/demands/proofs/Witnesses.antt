@@ -10,7 +10,9 @@ use lib.Dec.{ltb, eqb}
 use lib.IntN.{ℤ}
 use lib.ListN.{length, get_or}
 use borrow.Author.Tests.{ltb-false, lt-ltb, eqb-true, eq-eqb, not-false}
-use Rattle.model.specs.declared.{Refusal.Refusal, Verdict.Verdict, QueryReply.QueryReply}
+use Rattle.std.specs.Prelude.{Ok, Err}
+use Rattle.model.specs.Words.{Verdict, QueryReply}
+use Rattle.model.specs.declared.Refusal.{Refusal}
 use Rattle.model.specs.Term.{term_at}
 use Rattle.model.specs.Check.{by_verdict}
 use Rattle.model.specs.Compare.{outcome, compare_reply}
@@ -34,24 +36,24 @@ use Rattle.theorems.proofs.Dropped.{query-takes, dropped-beaten-by-kept}
 use Rattle.demands.specs.Witness.{Answers, is_witness, witnessed, all_witnessed, where_kept, query_witnessed, beaten_by_kept}
 
 -- A reply refuses or it does not.
-not-refused : (r : QueryReply) (why : Refusal) (total : ℕ) → r ≡ QueryReply.Refused why → r ≡ QueryReply.Kept total → ⊥
+not-refused : (r : QueryReply) (why : Refusal) (total : ℕ) → r ≡ Err why → r ≡ Ok total → ⊥
 not-refused r why total e f = let z : ◌≡◌ {A = ℕ} 0 1 = cc in omega arith
 
 -- A reply that refuses nothing: Query took what it was given.
 replied-taken : (table : List ℕ) (columns : ℕ) (rows : List ℤ) (term group : ℕ) (before : List ℕ) (total : ℕ)
-    → query_reply table columns rows term group before ≡ QueryReply.Kept total
+    → query_reply table columns rows term group before ≡ Ok total
     → Taken table columns rows term group before
 unfolding query_reply
 replied-taken table columns rows term group before total e =
     taken-gives table columns rows term group before (go (query_verdict table columns rows term group before) e)
   where
     go : (v : Verdict)
-        → by_verdict v QueryReply.Refused
-        (QueryReply.Kept (kept_count (row_count columns rows) (beats_in (term_at table term) columns rows group)))
-        ≡ QueryReply.Kept total
-        → v ≡ Verdict.Passed
-    go Verdict.Passed e = refl
-    go (Verdict.Refused why) e = absurd (not-refused (QueryReply.Refused why) why total refl e)
+        → by_verdict v Err
+        (Ok (kept_count (row_count columns rows) (beats_in (term_at table term) columns rows group)))
+        ≡ Ok total
+        → v ≡ Ok tt
+    go (Ok u) e = refl
+    go (Err why) e = absurd (not-refused (Err why) why total refl e)
 
 module _ (table : List ℕ) (columns : ℕ) (rows : List ℤ) (term group : ℕ) (before : List ℕ)
     (taken : Taken table columns rows term group before) where
@@ -74,7 +76,7 @@ module _ (table : List ℕ) (columns : ℕ) (rows : List ℤ) (term group : ℕ)
 -- What an engine leaves in its buffer where it refuses nothing.
 pub replied-answers : (table : List ℕ) (columns : ℕ) (rows : List ℤ) (term group : ℕ) (before after : List ℕ) (x : QueryReply)
     → x ≡ query_reply table columns rows term group before → after ≡ query_buffer table columns rows term group before
-    → (total : ℕ) → x ≡ QueryReply.Kept total → Answers columns rows (row_count columns rows) after
+    → (total : ℕ) → x ≡ Ok total → Answers columns rows (row_count columns rows) after
 replied-answers table columns rows term group before after x e f total k =
     rw f
     (answers_of table columns rows term group before

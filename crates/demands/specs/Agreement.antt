@@ -1,10 +1,11 @@
 -- Whether two replies of Query and two answer buffers are the same (the second signed sentence, "Both engines answer so"). A
 -- reply is two numbers (SPECIFICATION, "What a call refuses"): the refusal's, 0 where nothing is refused, and the kept
 -- count or the record that the refusal names. They tell it apart from every other reply. Assumes nothing.
-use Rattle.std.specs.Prelude.{◌≡◌, refl, ◌↔◌, Bool, true, false, not, cond, ◌&&◌, List, ℕ, eqb, length, get_or}
+use Rattle.std.specs.Prelude.{◌≡◌, refl, ◌↔◌, Bool, true, false, not, cond, ◌&&◌, List, ℕ, eqb, length, get_or, Ok, Err}
 use Rattle.std.proofs.Common.{sym, ◌∙◌, ap, arith, ext_get_or, eqb-true, eq-eqb}
 use Rattle.std.proofs.lemmas.Bool.{not-true, not-false}
-use Rattle.model.specs.declared.{Refusal.Refusal, QueryReply.QueryReply}
+use Rattle.model.specs.Words.{QueryReply}
+use Rattle.model.specs.declared.Refusal.{Refusal}
 use Rattle.model.specs.Replies.{listed, listed_query, refusals, numbered, refusal}
 use Rattle.model.specs.Search.{any_below}
 use Rattle.laws.specs.Bools.{and_l, and_r, and_i, not-both, off}
@@ -13,12 +14,12 @@ use Rattle.laws.specs.Listed.{record_in, refusal_of, refusal-back}
 
 -- The kept count, or the record that the refusal names, 0 where it names none.
 abbrev pub value_replied : QueryReply → ℕ
-value_replied (QueryReply.Kept total) = total
-value_replied (QueryReply.Refused why) = record_in (listed why).place
+value_replied (Ok total) = total
+value_replied (Err why) = record_in (listed why).place
 
 -- The reply with these two numbers.
 abbrev back : ℕ → ℕ → QueryReply
-back number value = cond (eqb number 0) (QueryReply.Kept value) (QueryReply.Refused (refusal number value))
+back number value = cond (eqb number 0) (Ok value) (Err (refusal number value))
 
 -- No refusal has the number 0: number 0 is none of the list, and reads as SHORT, which has 18.
 not-zero : (why : Refusal) → eqb (listed why).number 0 ≡ false
@@ -32,8 +33,8 @@ not-zero why =
 
 read_back : (r : QueryReply) → back (listed_query r).number (value_replied r) ≡ r
 unfolding refusal_of
-read_back (QueryReply.Kept total) = refl
-read_back (QueryReply.Refused why) = rw (not-zero why) (ap QueryReply.Refused (refusal-back why))
+read_back (Ok total) = refl
+read_back (Err why) = rw (not-zero why) (ap Err (refusal-back why))
 
 -- Replies with the same two numbers are the same.
 replied-apart : (a b : QueryReply) → (listed_query a).number ≡ (listed_query b).number → value_replied a ≡ value_replied b → a ≡ b

@@ -1,13 +1,13 @@
 -- What a reply of Compare gives, and what "strictly" asks of replies, as tests (SPECIFICATION, "The third promise, word
 -- by word"). No test holds of a refusal.
-use Rattle.std.specs.Prelude.{Bool, not, ◌&&◌, ◌||◌, ℕ, ltb, eqb}
-use Rattle.model.specs.declared.{CompareReply.CompareReply}
+use Rattle.std.specs.Prelude.{Bool, not, ◌&&◌, ◌||◌, ℕ, ltb, eqb, Ok, Err}
+use Rattle.model.specs.Words.{CompareReply}
 use Rattle.model.specs.Replies.{outcome_number}
 
 -- What a reply of Compare gives as a number; 4 where it refuses.
 abbrev pub number_given : CompareReply → ℕ
-number_given (CompareReply.Compared o) = outcome_number o
-number_given (CompareReply.Refused why) = 4
+number_given (Ok o) = outcome_number o
+number_given (Err why) = 4
 
 -- "x against x gives same": of the reply to x, x.
 unfoldable pub gives_same : CompareReply → Bool

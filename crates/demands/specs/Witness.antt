@@ -1,7 +1,7 @@
 -- The witness of a dropped row, as a test of the answers (the second and the third signed sentence): its entry is a row that
 -- holds its own number, is in its group and is first better in Compare's reply.
-use Rattle.std.specs.Prelude.{◌≡◌, Bool, false, not, ◌&&◌, ◌||◌, List, ℕ, ◌*◌, ◌≤◌, ltb, eqb, ℤ, length, get_or}
-use Rattle.model.specs.declared.{QueryReply.QueryReply}
+use Rattle.std.specs.Prelude.{◌≡◌, Bool, false, not, ◌&&◌, ◌||◌, List, ℕ, ◌*◌, ◌≤◌, ltb, eqb, ℤ, length, get_or, Ok, Err}
+use Rattle.model.specs.Words.{QueryReply}
 use Rattle.model.specs.Search.{any_below}
 use Rattle.model.specs.Better.{equal_in}
 use Rattle.model.specs.Compare.{compare_reply}
@@ -35,8 +35,8 @@ all_witnessed table columns rows n term group answers =
 
 -- What is so of the kept count; what is said instead where Query refuses.
 abbrev pub by_reply : {A : Type 0} → QueryReply → (ℕ → A) → A → A
-by_reply (QueryReply.Kept total) so refused = so total
-by_reply (QueryReply.Refused why) so refused = refused
+by_reply (Ok total) so refused = so total
+by_reply (Err why) so refused = refused
 
 -- What is so where Query refused nothing; false where it refused.
 abbrev pub where_kept : QueryReply → Bool → Bool

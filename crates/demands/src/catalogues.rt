@@ -6,8 +6,7 @@ ghost use Rattle.model.specs.Demand.{accepted};
 ghost use Rattle.demands.specs.Leaving.{merges, merges_buffer};
 
 use crate::agreement::left::queried_again;
-use crate::agreement::stays::{first_count, mark_apart};
-use model::QueryReply;
+use crate::agreement::stays::mark_apart;
 use query::query_direct;
 
 // The rows before `split` and those from it on as two catalogues, queried separately, one by each engine; then their
@@ -38,10 +37,10 @@ pub fn merged(
 {
     let whole = query_direct(table, columns, rows, term, group, answers);
     match whole {
-        QueryReply::Refused(_) => false,
-        QueryReply::Kept(total) => {
+        Err(_) => false,
+        Ok(total) => {
             let n = rows.len() / columns;
-            let first = first_count(split, n);
+            let first = split.min(n);
             let mut stay = [false; 1024];
             mark_apart(table, columns, rows, n, first, term, group, &mut stay);
             queried_again(

@@ -9,7 +9,6 @@ ghost use Rattle.model.specs.Demand.{accepted};
 ghost use Rattle.demands.specs.Agreement.{same_reply, same_entries};
 ghost use Rattle.demands.specs.Witness.{beaten_by_kept};
 
-use crate::agreement::same::{same_entries, same_reply};
 use crate::agreement::witnesses::reply_witnessed;
 use query::{query_by_parts, query_direct};
 
@@ -35,7 +34,7 @@ pub fn engines_agree(
 {
     let direct = query_direct(table, columns, rows, term, group, a);
     let parts = query_by_parts(table, columns, rows, term, group, b);
-    same_reply(direct, parts) & same_entries(a, b)
+    (direct == parts) & (*a == *b)
 }
 
 // The direct engine, then the engine by parts over the buffer that it left: whether each dropped row's entry is a row that

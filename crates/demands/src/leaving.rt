@@ -10,7 +10,6 @@ ghost use Rattle.demands.specs.Leaving.{left_out, left_out_buffer};
 
 use crate::agreement::left::queried_again;
 use crate::agreement::stays::mark_spared;
-use model::QueryReply;
 use query::query_direct;
 
 // Query over the rows, then by both engines over those that are left when the dropped rows with out[i] != 0 are taken
@@ -40,8 +39,8 @@ pub fn left_out(
 {
     let whole = query_direct(table, columns, rows, term, group, answers);
     match whole {
-        QueryReply::Refused(_) => false,
-        QueryReply::Kept(total) => {
+        Err(_) => false,
+        Ok(total) => {
             let mut stay = [false; 1024];
             mark_spared(answers, out, rows.len() / columns, &mut stay);
             queried_again(

@@ -52,23 +52,7 @@ unfolding kept_count
 listed-row beats n z list s h = (listed_at (kept n beats) n z list s h).0
 
 module _ (beats : Rel ℕ) (n i : ℕ) where
-  -- Nothing is sought yet.
-  pub sought-start : Sought beats n i 0
-  sought-start = record { none = λ k l b h. absurd (omega arith) }
-
   module _ (z : ℕ) (list : List ℕ) (s : Listed (kept n beats) n list) (t : Sought beats n i z) where
-    -- The entry at z is not better.
-    pub sought-more : {r : Bool} → r ≡ beats (get_or list z 0) i → r ≡ false → Sought beats n i (z + 1)
-    sought-more is off =
-        let e = sym is ∙ off in
-        record {
-          none = λ k h b c. ⊎_elim
-              (λ q. t.none k h b q)
-              (λ q. let f : count_below k (kept n beats) ≡ z = omega arith in
-              let g : get_or list z 0 ≡ k = rw f at (s.place k h b) in rw g at e)
-              (below_or_not (count_below k (kept n beats)) z);
-        }
-
     -- The entry at z is better.
     pub sought-hit : z < kept_count n beats → {r : Bool} → r ≡ beats (get_or list z 0) i → r ≡ true
         → get_or list z 0 ≡ lowest_kept n beats i

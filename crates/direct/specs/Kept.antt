@@ -1,5 +1,5 @@
 -- The list of the kept rows, and the entries that are looked up in it.
-use Rattle.std.specs.Prelude.{◌≡◌, Bool, true, ◌&&◌, List, ℕ, ◌<◌, ◌≤◌, get_or, length}
+use Rattle.std.specs.Prelude.{◌≡◌, Bool, true, ◌&&◌, List, ℕ, ◌<◌, get_or, length}
 use Rattle.model.specs.Search.{find_below, count_below}
 use Rattle.model.specs.Query.{kept, kept_count}
 use Rattle.laws.specs.Order.{Rel}
@@ -9,11 +9,10 @@ use Rattle.laws.specs.Elimination.{Settled}
 pub record Listed (pass : ℕ → Bool) (i : ℕ) (list : List ℕ) : Type 0 where
   pub place : (k : ℕ) → k < i → pass k ≡ true → get_or list (count_below k pass) 0 ≡ k
 
--- The m kept rows stand in the list, in order, and a row is not gone exactly where it is kept.
-pub record KeptRows (beats : Rel ℕ) (n m : ℕ) (gone list : List ℕ) : Type 0 where
+-- The list is that of the kept rows, in order, and a row is not gone exactly where it is kept.
+pub record KeptRows (beats : Rel ℕ) (n : ℕ) (gone list : List ℕ) : Type 0 where
   pub settled : Settled beats n gone
-  pub count : m ≡ kept_count n beats
-  pub room : m ≤ length list
+  pub count : length list ≡ kept_count n beats
   pub listed : Listed (kept n beats) n list
 
 -- The lowest kept row that is better than row i; n where there is none.

@@ -1,9 +1,10 @@
 -- The laws of a list of rows that pass a test, and of the list of kept rows. Assumes nothing.
-use Rattle.std.specs.Prelude.{◌≡◌, Bool, false, List, eqb, length, get_or, set}
+use Rattle.std.specs.Prelude.{◌≡◌, Bool, false, List, eqb, length, get_or, set, take}
 use Rattle.std.proofs.Math.Path.{refl}
 use Rattle.std.proofs.Common.{sym, ◌∙◌, arith, add-one, get_or-set_same, get_or-set_other}
 use Rattle.std.proofs.Math.Bool.{true, cond}
 use Rattle.std.proofs.lemmas.Bool.{false≢true}
+use Rattle.std.proofs.lemmas.List.{get_or-take, length-take-le}
 use Rattle.std.proofs.Math.Logic.{⊎_elim}
 use Prim.Native.Nat.{ℕ, zero, suc, ◌+◌, ◌<◌, ◌≤◌}
 use Rattle.model.specs.Search.{count_below}
@@ -81,14 +82,23 @@ listed-ext p q n list e s =
       place = λ k h b. let c = count-ext k p q (λ j g. e j (omega arith)) in rw (← c) (s.place k h (e k h ∙ b));
     }
 
+-- Where m pass, the first m entries list the same.
+pub listed_take : (pass : ℕ → Bool) (n m : ℕ) (list : List ℕ) → m ≡ count_below n pass → Listed pass n list
+    → Listed pass n (take m list)
+listed_take pass n m list c s =
+    record {
+      place = λ k h b. let l = count_less pass k n h b in
+          get_or-take m list (count_below k pass) 0 (omega arith) ∙ s.place k h b;
+    }
+
 -- The rows that are not gone at the end, counted and listed, are the kept rows.
 pub kept-rows : (beats : Rel ℕ) (n m : ℕ) (gone list : List ℕ) → Settled beats n gone → n ≤ length list
     → m ≡ count_below n (λ j. eqb (get_or gone j 0) 0) → Listed (λ j. eqb (get_or gone j 0) 0) n list
-    → KeptRows beats n m gone list
+    → KeptRows beats n gone (take m list)
 kept-rows beats n m gone list s l c h =
+    let t = listed_take (λ j. eqb (get_or gone j 0) 0) n m list c h in
     record {
       settled = s;
-      count = c ∙ count_kept beats n gone s;
-      room = omega (arith, count-bound n (λ j. eqb (get_or gone j 0) 0));
-      listed = listed-ext (λ j. eqb (get_or gone j 0) 0) (kept n beats) n list s.each h;
+      count = length-take-le m list (omega (arith, count-bound n (λ j. eqb (get_or gone j 0) 0))) ∙ c ∙ count_kept beats n gone s;
+      listed = listed-ext (λ j. eqb (get_or gone j 0) 0) (kept n beats) n (take m list) s.each t;
     }

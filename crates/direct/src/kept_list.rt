@@ -5,18 +5,19 @@ ghost use Rattle.direct.specs.Kept.{Listed};
 
 // Lists the rows that are not gone, in order. Returns how many there are.
 pub fn list_kept(n: usize, gone: &[u8], kept: &mut [u16]) -> usize
-    requires { (n ≤ 1024) × (n ≤ length gone.now) × (n ≤ length kept.old) }
-    ensures { (result ≡ count_below n (λ j. eqb (get_or gone.now j 0) 0))
-        × Listed (λ j. eqb (get_or gone.now j 0) 0) n kept.new }
+    requires few { n ≤ 1024 }
+    requires gone { n ≤ length gone.now }
+    requires room { n ≤ length kept.old }
+    ensures most { result ≤ n }
+    ensures count { result ≡ count_below n (λ j. eqb (get_or gone.now j 0) 0) }
+    ensures listed { Listed (λ j. eqb (get_or gone.now j 0) 0) n kept.new }
 {
     let mut m = 0;
-    let mut i = 0;
-    while i < n {
+    for i in 0..n {
         if gone[i] == 0 {
             kept[m] = i as u16;
             m += 1;
         }
-        i += 1;
     }
     m
 }

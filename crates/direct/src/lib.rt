@@ -1,4 +1,4 @@
-// The direct engine: rows compared pair by pair. Below `vetted`, the top, stand the room for ranks, the rounds in which rows
+// The direct engine: rows compared pair by pair. Below `vetted`, the top, stand what it prepares, the rounds in which rows
 // meet, and the answers.
 #![tactic(auto)]
 
@@ -6,7 +6,6 @@ mod entries;
 mod entry;
 mod kept_list;
 mod meetings;
-mod rooms;
 mod rounds;
 pub mod vetted;
 mod witnesses;

@@ -1,13 +1,12 @@
 -- How a reply is laid out for C (bindings/c/finialbasil.h): what the specification lists for it, field by field.
-use Rattle.std.specs.Prelude.{ℕ, [], ◌∷◌, get_or}
-use Rattle.model.specs.declared.{Place.Place}
-use Rattle.model.specs.Replies.{Listing, giving}
+use Rattle.std.specs.Prelude.{ℕ, get_or, Option, Some, None}
+use Rattle.model.specs.Replies.{Listing}
 use Rattle.finialbasil.specs.declared.c_replies.{FnbCheckReply.FnbCheckReply, FnbReply.FnbReply}
 
 -- The record that a refusal names, or FNB_NO_PLACE.
-abbrev pub place_number : Place → ℕ
-place_number Place.Nowhere = 4294967295
-place_number (Place.At k) = k
+abbrev pub place_number : Option ℕ → ℕ
+place_number None = 4294967295
+place_number (Some k) = k
 
 -- The refusal's number (0: none) and place, then the values that Check gives, in the document's order: number of
 -- records, top, columns read by the top, how many. A refusal gives no values: they are 0.
@@ -30,7 +29,3 @@ reply_fields listing =
       place = place_number listing.place;
       value = get_or listing.values 0 0;
     }
-
--- No refusal, and the value.
-unfoldable pub given_fields : ℕ → FnbReply
-given_fields value = reply_fields (giving (value ∷ []))

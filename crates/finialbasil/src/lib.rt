@@ -12,9 +12,7 @@ ghost use Rattle.model.specs.Perfect.{perfect_reply};
 ghost use Rattle.model.specs.Query.{query_reply, query_buffer};
 ghost use Rattle.finialbasil.specs.Layout.{check_fields, reply_fields};
 
-use crate::c_replies::{
-    FnbCheckReply, FnbReply, check_fields, compare_fields, perfect_fields, query_fields,
-};
+use crate::c_replies::{FnbCheckReply, FnbReply, check_fields, reply_fields};
 
 // Check: table and column count.
 #[unsafe(no_mangle)]
@@ -35,7 +33,7 @@ pub extern "C" fn fnb_compare(
 ) -> FnbReply
     ensures { result ≡ reply_fields (listed_compare (compare_reply table.now columns term first.now second.now)) }
 {
-    compare_fields(compare::compare(table, columns, term, first, second))
+    reply_fields(compare::compare(table, columns, term, first, second).map(|o| o as u32))
 }
 
 // Perfect: also a term's record number and one row. Not perfect 0, perfect 1.
@@ -43,7 +41,7 @@ pub extern "C" fn fnb_compare(
 pub extern "C" fn fnb_perfect(table: &[u8], columns: usize, term: usize, row: &[i32]) -> FnbReply
     ensures { result ≡ reply_fields (listed_perfect (perfect_reply table.now columns term row.now)) }
 {
-    perfect_fields(perfect::perfect(table, columns, term, row))
+    reply_fields(perfect::perfect(table, columns, term, row).map(|m| m as u32))
 }
 
 // Query, rows compared pair by pair: table, column count, rows, a term's record number, a group byte and the answer buffer,
@@ -61,7 +59,7 @@ pub extern "C" fn fnb_query_direct(
         (query_reply table.now columns rows.now term group answers.old)))
         × (answers.new ≡ query_buffer table.now columns rows.now term group answers.old) }
 {
-    query_fields(query::query_direct(table, columns, rows, term, group, answers))
+    reply_fields(query::query_direct(table, columns, rows, term, group, answers).map(u32::from))
 }
 
 // Query, from the answers of the smaller wishes: the same contract.
@@ -78,5 +76,5 @@ pub extern "C" fn fnb_query_by_parts(
         (query_reply table.now columns rows.now term group answers.old)))
         × (answers.new ≡ query_buffer table.now columns rows.now term group answers.old) }
 {
-    query_fields(query::query_by_parts(table, columns, rows, term, group, answers))
+    reply_fields(query::query_by_parts(table, columns, rows, term, group, answers).map(u32::from))
 }

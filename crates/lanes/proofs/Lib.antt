@@ -1,6 +1,4 @@
+pub mod Stretch
 pub mod Tests
-pub mod Stored
 pub mod LitStored
-pub mod EqualStored
-pub mod MarksStored
 pub mod Picked

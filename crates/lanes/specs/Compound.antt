@@ -1,15 +1,8 @@
--- The code of a compound that each loop writes in lane j, from the codes of its parts at l and r.
+-- The code of a compound that is written in lane j, from the codes of its parts at l and r.
 use Rattle.std.specs.Prelude.{List, ℕ, ◌+◌, ◌*◌, get_or}
-use Rattle.std.specs.Int.Bits.{bit_or}
 use Rattle.model.specs.declared.{CompoundTerm.CompoundTerm, Pair.Pair}
 use Rattle.model.specs.declared.CompoundTerm.TheVariants.{Joined, Dual}
-use Rattle.laws.specs.Codes.{prior_code, turned_code, joined_code}
-
-unfoldable pub or_lane : List ℕ → ℕ → ℕ → ℕ → ℕ
-or_lane codes l r j = bit_or (get_or codes (l + j) 0) (get_or codes (r + j) 0)
-
-unfoldable pub prior_lane : List ℕ → ℕ → ℕ → ℕ → ℕ
-prior_lane codes l r j = prior_code (get_or codes (l + j) 0) (get_or codes (r + j) 0)
+use Rattle.laws.specs.Codes.{turned_code, joined_code}
 
 -- By the kind of compound.
 unfoldable pub joined_lane : Pair → List ℕ → ℕ → ℕ → ℕ → ℕ

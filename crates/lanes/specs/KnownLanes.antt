@@ -1,6 +1,7 @@
 -- What each loop over 64 lanes leaves in lane j (what is told: `exits` of `plan`).
 use Rattle.std.specs.Prelude.{◌≡◌, cond, List, ℕ, ◌+◌, ◌<◌, ◌≤◌, eqb, get_or}
 use Rattle.std.specs.Int.Bits.{bit_or}
+use Rattle.plan.specs.declared.vetted.exit_masks.{Exit.Exit}
 use Rattle.plan.specs.Told.{told_code, bits}
 
 -- Nothing is known of a lane that is lit.
@@ -24,7 +25,7 @@ unfoldable pub bits_lane : List ℕ → ℕ → ℕ
 bits_lane known j = bits (get_or known j 0)
 
 -- In each lane that has a code: what was known, and what the code tells by mask m.
-pub record Told (m : ℕ) (codes : List ℕ) (from : ℕ) (old new : List ℕ) : Type 0 where
+pub record Told (m : Exit) (codes : List ℕ) (from : ℕ) (old new : List ℕ) : Type 0 where
   pub made : (j : ℕ) → j < 64 → get_or codes (from + j) 0 < 4
       → get_or new j 0 ≡ bit_or (get_or old j 0) (told_code m (get_or codes (from + j) 0))
 

@@ -1,4 +1,5 @@
--- The code of a base record that each loop writes in lane j. The row has rank x and value v, lane j's stand at `at + j` and `from + j`.
+-- The code of a base record that each loop writes in lane j. The row has rank x and value v, lane j's stand at `at + j` and
+-- `from + j`.
 use Rattle.std.specs.Prelude.{cond, List, ℕ, ◌+◌, ltb, ℤ, pos, negsuc, get_or}
 use Rattle.std.specs.Int.Signed.{lt_z}
 use Rattle.model.specs.Bytes.{eq_z}

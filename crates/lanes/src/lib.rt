@@ -3,4 +3,5 @@
 // are better (the report's "better than" set, Definition 17b), those with 1 the worse ones, and those with 0 the equal ones.
 #![tactic(auto)]
 
+mod each_lane;
 pub mod vetted;

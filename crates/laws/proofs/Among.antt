@@ -1,10 +1,9 @@
 -- "Keeps among the rows equal in the first's columns" by Query on the second (SPECIFICATION, "The third promise, word
 -- by word"). Assumes nothing.
 -- What a reader or a contract cites stands in specs/Among.
-use Rattle.std.specs.Prelude.{◌≡◌, true, List, ℕ, ◌<◌, ℤ}
+use Rattle.std.specs.Prelude.{◌≡◌, true, List, ℕ, ◌<◌, ℤ, Ok}
 use Rattle.std.proofs.Common.{sym, ◌∙◌}
 use Rattle.std.specs.Int.Bits.{bit_or}
-use Rattle.model.specs.declared.{Verdict.Verdict}
 use Rattle.model.specs.Record.{record_count, record_at, is_term}
 use Rattle.model.specs.Term.{term_at, columns_of}
 use Rattle.model.specs.Query.{row_count, query_verdict}
@@ -19,7 +18,7 @@ use Rattle.laws.specs.Among.{group-or}
 
 -- Query on the second gives it when the bits of those columns are set in the group byte too.
 pub keeps-among-by-query : (table : List ℕ) (columns : ℕ) (rows : List ℤ) (first second group : ℕ) (before : List ℕ)
-    → query_verdict table columns rows second group before ≡ Verdict.Passed
+    → query_verdict table columns rows second group before ≡ Ok tt
     → first < record_count table → is_term (record_at table first) ≡ true
     → (i : ℕ) → i < row_count columns rows
     → keeps_among table columns rows first second group i

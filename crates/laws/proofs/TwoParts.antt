@@ -1,9 +1,9 @@
 -- Where Query takes a record of two parts, it takes the two placings, ranking equally, and each part's own record, and the
 -- rows that they keep are as the third signed sentence says (SPECIFICATION, "The third promise, word by word"). Assumes
 -- nothing.
-use Rattle.std.specs.Prelude.{◌≡◌, true, not, ◌&&◌, ◌||◌, List, ℕ, ◌<◌, ◌≤◌, ℤ, length}
+use Rattle.std.specs.Prelude.{◌≡◌, true, not, ◌&&◌, ◌||◌, List, ℕ, ◌<◌, ◌≤◌, ℤ, length, Ok}
 use Rattle.std.proofs.Common.{arith}
-use Rattle.model.specs.declared.{Pair.Pair, Verdict.Verdict}
+use Rattle.model.specs.declared.Pair.{Pair}
 use Rattle.model.specs.declared.Pair.TheVariants.{Pareto, Prior}
 use Rattle.model.specs.Search.{any_below}
 use Rattle.model.specs.Record.{record_at, kind_at, p_at, q_at, is_term}
@@ -20,7 +20,7 @@ use Rattle.laws.specs.Placings.{TwoParts, Placed, two-parts}
 use Rattle.laws.proofs.Placings.{left-first, right-first, ranked-equally}
 
 module _ (table : List ℕ) (columns : ℕ) (rows : List ℤ) (k group : ℕ) (before : List ℕ)
-    (passed : query_verdict table columns rows k group before ≡ Verdict.Passed) (two : TwoParts (kind_at table k)) where
+    (passed : query_verdict table columns rows k group before ≡ Ok tt) (two : TwoParts (kind_at table k)) where
   t : Taken table columns rows k group before
   t = taken-gives table columns rows k group before passed
 

@@ -1,8 +1,8 @@
 -- What a query gives and writes (SPECIFICATION, "Query"), and the placings of two parts in the words of the third
 -- signed sentence (SPECIFICATION, "The third promise, word by word"). Assumes nothing.
-use Rattle.std.specs.Prelude.{◌≡◌, false, not, ◌&&◌, ◌||◌, List, ℕ, suc, ◌<◌, ◌≤◌, eqb, ℤ, length, get_or}
+use Rattle.std.specs.Prelude.{◌≡◌, false, not, ◌&&◌, ◌||◌, List, ℕ, suc, ◌<◌, ◌≤◌, eqb, ℤ, length, get_or, Ok, Err}
 use Rattle.std.proofs.Common.{◌∙◌, sym, ap}
-use Rattle.model.specs.declared.{Refusal.Refusal, Verdict.Verdict, QueryReply.QueryReply}
+use Rattle.model.specs.declared.Refusal.{Refusal}
 use Rattle.model.specs.declared.Pair.TheVariants.{Pareto, Prior}
 use Rattle.model.specs.Search.{any_below, count_below, fill}
 use Rattle.model.specs.Term.{pair, term_at}
@@ -16,7 +16,7 @@ use Rattle.laws.specs.Rows.{beats-strict, kept-prior-rows, kept-pareto-rows}
 
 -- The query refuses nothing, its buffer has an entry for each row, and its term orders the rows strictly.
 pub record Asked (table : List ℕ) (columns : ℕ) (rows : List ℤ) (term group : ℕ) (before : List ℕ) : Type 0 where
-  pub passed : query_verdict table columns rows term group before ≡ Verdict.Passed
+  pub passed : query_verdict table columns rows term group before ≡ Ok tt
   pub long : row_count columns rows ≤ length before
   pub strict : Strict (better (term_at table term))
 
@@ -31,7 +31,7 @@ module _ (table : List ℕ) (columns : ℕ) (rows : List ℤ) (term group : ℕ)
   after = query_buffer table columns rows term group before
 
   -- No refusal writes anything.
-  pub refused-buffer : (why : Refusal) → query_verdict table columns rows term group before ≡ Verdict.Refused why
+  pub refused-buffer : (why : Refusal) → query_verdict table columns rows term group before ≡ Err why
       → after ≡ before
   unfolding query_buffer
   refused-buffer why e = rw e
@@ -45,7 +45,7 @@ module _ (table : List ℕ) (columns : ℕ) (rows : List ℤ) (term group : ℕ)
     passed-buffer = rw asked.passed
 
     -- The reply is the kept count.
-    pub passed-reply : query_reply table columns rows term group before ≡ QueryReply.Kept (kept_count n beats)
+    pub passed-reply : query_reply table columns rows term group before ≡ Ok (kept_count n beats)
     unfolding query_reply
     passed-reply = rw asked.passed
 
@@ -72,8 +72,8 @@ module _ (table : List ℕ) (columns : ℕ) (rows : List ℤ) (term group : ℕ)
 
     -- The reply is the number of rows whose entry holds their own number.
     pub reply-own : (d : ℕ)
-        → query_reply table columns rows term group before ≡ QueryReply.Kept (count_below n (λ i. eqb (get_or after i d) i))
-    reply-own d = passed-reply ∙ ap QueryReply.Kept (rw passed-buffer (count-own beats order n d before asked.long))
+        → query_reply table columns rows term group before ≡ Ok (count_below n (λ i. eqb (get_or after i d) i))
+    reply-own d = passed-reply ∙ ap Ok (rw passed-buffer (count-own beats order n d before asked.long))
 
 -- ---- two parts
 

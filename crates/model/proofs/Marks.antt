@@ -9,7 +9,8 @@ use native.Mathlib.Omega.{arith}
 use lib.Dec.{ltb}
 use lib.IntN.{pos}
 use borrow.Author.Tests.{ltb-true, ltb-false}
-use Rattle.model.specs.Words.{Verdict, Value, Pos, Any, Lowest, Pareto}
+use Rattle.std.specs.Prelude.{Ok}
+use Rattle.model.specs.Words.{Value, Pos, Any, Lowest, Pareto}
 use Rattle.model.specs.Search.{any_below, any_in}
 use Rattle.model.specs.Bytes.{signed, eq_z}
 use Rattle.model.specs.Term.{Term, term_at, base, pair, dual}
@@ -40,7 +41,7 @@ found zero test k h e = absurd (omega arith)
 found (suc n) test k h e = ⊎_elim (λ l. rw (found n test k l e)) (λ l. or_r (any_below n test) (rw (← l) e)) (lt-suc-cases k n h)
 
 -- Perfect gives the mark of the term that the table's record decodes to.
-pub reply : (table : List ℕ) (columns term : ℕ) (row : Row) (t : Term) {b : Bool} → term_verdict table columns (fails_row columns row) term ≡ Verdict.Passed → term_at table term ≡ t → perfect false t row ≡ b → from_perfect (perfect_reply table columns term row) ≡ marked (mark_of b)
+pub reply : (table : List ℕ) (columns term : ℕ) (row : Row) (t : Term) {b : Bool} → term_verdict table columns (fails_row columns row) term ≡ Ok tt → term_at table term ≡ t → perfect false t row ≡ b → from_perfect (perfect_reply table columns term row) ≡ marked (mark_of b)
 unfolding perfect_reply
 reply table columns term row t v e m = rw (v, e, m)
 

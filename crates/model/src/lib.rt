@@ -23,8 +23,37 @@ pub const MOST_VALUES: usize = 16;
 
 // ---- records
 
-// A value of a term. Roles: 1 favourite, 2 disliked, 3 second choice, 4 edge (u worse, v better).
-#[derive(Clone, Copy)]
+// The kinds of records, with the numbers that stand for them in a table. A byte there may be any other number too.
+#[derive(Clone, Copy, Debug, PartialEq, Eq)]
+pub enum Kind {
+    Value = 0,
+    Lowest = 1,
+    Highest = 2,
+    Around = 3,
+    Between = 4,
+    Pos = 5,
+    Neg = 6,
+    PosNeg = 7,
+    PosPos = 8,
+    Explicit = 9,
+    Any = 10,
+    Pareto = 16,
+    Prior = 17,
+    Both = 18,
+    Dual = 19,
+}
+
+// The roles of values, with their numbers. An edge has u worse, v better.
+#[derive(Clone, Copy, Debug, PartialEq, Eq)]
+pub enum Role {
+    Favourite = 1,
+    Disliked = 2,
+    SecondChoice = 3,
+    Edge = 4,
+}
+
+// A value of a term, with the number of its role.
+#[derive(Clone, Copy, Debug, PartialEq, Eq)]
 pub struct Value {
     pub role: u8,
     pub u: i32,
@@ -32,7 +61,7 @@ pub struct Value {
 }
 
 // The base terms, with the numbers that stand in their own record: AROUND's wish, BETWEEN's low and up.
-#[derive(Clone, Copy)]
+#[derive(Clone, Copy, Debug, PartialEq, Eq)]
 pub enum BaseTerm {
     Lowest,
     Highest,
@@ -47,7 +76,7 @@ pub enum BaseTerm {
 }
 
 // How a compound of two parts joins them.
-#[derive(Clone, Copy)]
+#[derive(Clone, Copy, Debug, PartialEq, Eq)]
 pub enum Pair {
     Pareto,
     Prior,
@@ -55,14 +84,14 @@ pub enum Pair {
 }
 
 // The compound terms, with the record numbers of their parts: left and right, or the one part.
-#[derive(Clone, Copy)]
+#[derive(Clone, Copy, Debug, PartialEq, Eq)]
 pub enum CompoundTerm {
     Joined(Pair, u8, u8),
     Dual(u8),
 }
 
 // A record is a value, a base term (with its column) or a compound term. Unknown: its kind is not in the list.
-#[derive(Clone, Copy)]
+#[derive(Clone, Copy, Debug, PartialEq, Eq)]
 pub enum Record {
     Value(Value),
     Base(u8, BaseTerm),
@@ -73,7 +102,7 @@ pub enum Record {
 // ---- refusals
 
 // What a call refuses, in the order of the specification's numbers, with the record where it gives a place.
-#[derive(Clone, Copy)]
+#[derive(Clone, Copy, Debug, PartialEq, Eq)]
 pub enum Refusal {
     Width,
     Length,
@@ -95,24 +124,13 @@ pub enum Refusal {
     Short,
 }
 
-// The place of a refusal.
-#[derive(Clone, Copy)]
-pub enum Place {
-    Nowhere,
-    At(u8),
-}
-
 // What the tests of a call come to: its first refusal, or none.
-#[derive(Clone, Copy)]
-pub enum Verdict {
-    Passed,
-    Refused(Refusal),
-}
+pub type Verdict = Result<(), Refusal>;
 
 // ---- replies
 
 // Number of records, top, the columns that the top reads (bit j for column j), and how many these are.
-#[derive(Clone, Copy)]
+#[derive(Clone, Copy, Debug, PartialEq, Eq)]
 pub struct Summary {
     pub records: u8,
     pub top: u8,
@@ -120,43 +138,28 @@ pub struct Summary {
     pub count: u32,
 }
 
-#[derive(Clone, Copy)]
-pub enum CheckReply {
-    Accepted(Summary),
-    Refused(Refusal),
-}
+pub type CheckReply = Result<Summary, Refusal>;
 
-// How two rows compare: equal in the term's columns, the first better, the second better, or unranked.
-#[derive(Clone, Copy)]
+// How two rows compare: equal in the term's columns, the first better, the second better, or unranked; with the numbers
+// that stand for them at the C interface.
+#[derive(Clone, Copy, Debug, PartialEq, Eq)]
 pub enum Outcome {
-    Same,
-    First,
-    Second,
-    Unranked,
+    Same = 0,
+    First = 1,
+    Second = 2,
+    Unranked = 3,
 }
 
-#[derive(Clone, Copy)]
-pub enum CompareReply {
-    Compared(Outcome),
-    Refused(Refusal),
-}
+pub type CompareReply = Result<Outcome, Refusal>;
 
 // How many rows were kept.
-#[derive(Clone, Copy)]
-pub enum QueryReply {
-    Kept(u16),
-    Refused(Refusal),
-}
+pub type QueryReply = Result<u16, Refusal>;
 
-// Whether a row is perfect.
-#[derive(Clone, Copy)]
+// Whether a row is perfect, with its number at the C interface.
+#[derive(Clone, Copy, Debug, PartialEq, Eq)]
 pub enum Mark {
-    No,
-    Yes,
+    No = 0,
+    Yes = 1,
 }
 
-#[derive(Clone, Copy)]
-pub enum PerfectReply {
-    Marked(Mark),
-    Refused(Refusal),
-}
+pub type PerfectReply = Result<Mark, Refusal>;

@@ -2,17 +2,19 @@
 use mathlib.Core.Path.{◌≡◌}
 use mathlib.Core.Bool.{Bool}
 use mathlib.Core.List.{List}
-use Prim.Native.Nat.{ℕ, ◌+◌, ◌*◌, ◌<◌, ◌≤◌}
+use Prim.Native.Nat.{ℕ, ◌+◌, ◌-◌, ◌*◌, ◌<◌, ◌≤◌}
 use native.Mathlib.Nat.{mul-le-mul_left, mul-le-mul_right}
 use native.Mathlib.Omega.{arith}
 use lib.IntN.{ℤ}
-use lib.ListN.{length}
+use lib.ListN.{length, take, drop}
 use Rattle.model.specs.Better.{Row}
 use Rattle.laws.specs.AcceptedTable.{accepted-table}
-use Rattle.rows.specs.Places.{row_in, row-length}
+use Rattle.rows.specs.Places.{row_in, row-part, row-length}
+use Rattle.plan.specs.declared.vetted.exit_masks.{Exit.Exit}
+use Rattle.plan.specs.declared.vetted.ops.{Step.Step}
 use Rattle.pairs.specs.Pairs.{Comparable, RowOf}
 
-module _ {table ops ends : List ℕ} {reach : List (List Bool)} {marks : List Bool} {exits : List ℕ}
+module _ {table : List ℕ} {ops : List Step} {ends : List ℕ} {reach : List (List Bool)} {marks : List Bool} {exits : List Exit}
     {term columns : ℕ} {rows : List ℤ} {n stride : ℕ} {ranks : List ℤ}
     (c : Comparable table ops ends reach marks exits term columns rows n stride ranks) where
   -- A row of the run ends inside it,
@@ -33,3 +35,7 @@ module _ {table ops ends : List ℕ} {reach : List (List Bool)} {marks : List Bo
   -- A row of the run has the run's columns.
   pub row_fits : {i : ℕ} {row : Row} → RowOf columns rows n i row → length row ≡ columns
   row_fits {i} r = rw r.is (row-length columns rows n c.run i r.below)
+
+  -- The part of the run from a row's beginning to its end is a row of the run.
+  pub part_is : (i : ℕ) → i < n → RowOf columns rows n i (take (i * columns + columns - i * columns) (drop (i * columns) rows))
+  part_is i l = record { below = l; is = row-part columns rows i }

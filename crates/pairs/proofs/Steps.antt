@@ -22,6 +22,8 @@ use Rattle.plan.specs.Told.{told_code, bits}
 use Rattle.plan.specs.Exits.{Exits, tells_at}
 use Rattle.plan.specs.Known.{Known}
 use Rattle.plan.proofs.Bits.{none_within, bits-low}
+use Rattle.plan.specs.declared.vetted.exit_masks.{Exit.Exit}
+use Rattle.plan.specs.declared.vetted.ops.{Step.Step}
 use Rattle.pairs.specs.Pairs.{Comparable, CodesBelow}
 
 -- None stands at first.
@@ -55,7 +57,7 @@ module _ {table : List ℕ} {marks : List Bool} {x y : Row} {k : ℕ} {codes : L
       more (λ h b. get_or-set_other codes k h c 0 (λ q. omega (arith, b, q))) (λ m t. get_or-set_same codes k c 0 l ∙ is) next
 
 -- Up to the next term there are values only, which tell nothing of the asked term.
-pub known_next : {table exits : List ℕ} {term : ℕ} → Exits table term exits → {x y : Row} {k known : ℕ}
+pub known_next : {table : List ℕ} {exits : List Exit} {term : ℕ} → Exits table term exits → {x y : Row} {k known : ℕ}
     → Known table term exits x y (k + 1) known → {e m : ℕ} → NextTerm table k m e → Known table term exits x y e known
 unfolding tells_at told_code bits
 known_next {table} {exits} {term} exiting {x} {y} {k} {known} v next =
@@ -69,8 +71,8 @@ known_next {table} {exits} {term} exiting {x} {y} {k} {known} v next =
           (on-or-off (ltb h (k + 1)));
     }
 
-module _ {table ops ends : List ℕ} {reach : List (List Bool)} {marks : List Bool}
-    {exits : List ℕ} {term columns : ℕ} {rows : List ℤ} {n stride : ℕ} {ranks : List ℤ}
+module _ {table : List ℕ} {ops : List Step} {ends : List ℕ} {reach : List (List Bool)} {marks : List Bool}
+    {exits : List Exit} {term columns : ℕ} {rows : List ℤ} {n stride : ℕ} {ranks : List ℤ}
     (ready : Comparable table ops ends reach marks exits term columns rows n stride ranks) where
   -- The first record is a term.
   pub first-term : is_term (record_at table 0) ≡ true

@@ -1,5 +1,5 @@
 -- What the direct engine compares two rows of a run with.
-use Rattle.std.specs.Prelude.{◌≡◌, Bool, true, false, cond, List, ℕ, ◌+◌, ◌*◌, ◌<◌, ◌≤◌, eqb, ℤ, length, get_or}
+use Rattle.std.specs.Prelude.{◌≡◌, Bool, true, false, List, ℕ, ◌+◌, ◌*◌, ◌<◌, ◌≤◌, ℤ, length, get_or}
 use Rattle.std.specs.Int.Bits.{bit_or}
 use Rattle.model.specs.Record.{record_at, is_term}
 use Rattle.model.specs.Term.{term_at}
@@ -12,11 +12,13 @@ use Rattle.rows.specs.Values.{Room}
 use Rattle.plan.specs.Beneath.{Marked}
 use Rattle.ranks.specs.Ranked.{Ranked}
 use Rattle.plan.specs.Exits.{Exits}
+use Rattle.plan.specs.declared.vetted.exit_masks.{Exit.Exit}
+use Rattle.plan.specs.declared.vetted.ops.{Op.Op, Step.Step}
 use Rattle.plan.specs.Ops.{Ops}
 
 -- A term record of an accepted table with what is prepared of it, and a run of n rows with their ranks.
-pub record Comparable (table ops ends : List ℕ) (reach : List (List Bool)) (marks : List Bool)
-    (exits : List ℕ) (term columns : ℕ) (rows : List ℤ) (n stride : ℕ) (ranks : List ℤ) : Type 0 where
+pub record Comparable (table : List ℕ) (ops : List Step) (ends : List ℕ) (reach : List (List Bool)) (marks : List Bool)
+    (exits : List Exit) (term columns : ℕ) (rows : List ℤ) (n stride : ℕ) (ranks : List ℤ) : Type 0 where
   pub taken : TakenTerm table columns term
   pub does : Ops table term ops
   pub runs : RunEnds table ends
@@ -46,6 +48,18 @@ pub record CodesBelow (table : List ℕ) (marks : List Bool) (x y : Row) (k : �
   pub each : (h : ℕ) → h < k → get_or marks h false ≡ true → is_term (record_at table h) ≡ true
       → get_or codes h 0 ≡ code (term_at table h) x y
 
+-- The operations of base terms.
+abbrev pub is_base : Op → Bool
+is_base Op.ByRank = true
+is_base Op.Places = true
+is_base Op.Join = false
+is_base Op.Prior = false
+is_base Op.Dual = false
+
 -- A compound's code from its parts' codes, by its operation.
-unfoldable pub op_code : ℕ → ℕ → ℕ → ℕ
-op_code op a b = cond (eqb op 2) (bit_or a b) (cond (eqb op 3) (prior_code a b) (turned_code a))
+abbrev pub op_code : Op → ℕ → ℕ → ℕ
+op_code Op.ByRank a b = turned_code a
+op_code Op.Places a b = turned_code a
+op_code Op.Join a b = bit_or a b
+op_code Op.Prior a b = prior_code a b
+op_code Op.Dual a b = turned_code a

@@ -1,79 +1,64 @@
 // Two rows of a run compared under one record beneath the asked term: a base record's code comes from the rows' values and
 // ranks, a compound's from its parts' codes. Each function asks what was prepared before. Codes: same 0, first better 1,
 // second better 2, unranked 3.
-ghost use Rattle.std.specs.Prelude.{◌≡◌, ◌+◌, ◌*◌, ◌/◌, ◌%◌, ◌<◌, pos, length, get_or};
+// As it is: a code is a number, no enum. That is no plainer: its two bits are a set, which `|` joins with another's.
+ghost use Rattle.std.specs.Prelude.{◌≡◌, true};
+ghost use Rattle.model.specs.Record.{record_at};
 ghost use Rattle.model.specs.Term.{term_at};
 ghost use Rattle.laws.specs.Codes.{code};
-ghost use Rattle.pairs.specs.Pairs.{Comparable, RowOf, RecordOf, CodesBelow, op_code};
+ghost use Rattle.plan.specs.Ops.{step_of};
+ghost use Rattle.pairs.specs.Pairs.{RecordOf, CodesBelow, is_base, op_code};
 
-use crate::values::{by_rank, explicit_code};
+use crate::pair::Pair;
+use crate::values::by_rank;
+use plan::vetted::ops::{Op, Step};
 use terms::codes::{prior_code, turned_code};
 
-// The code of marked record k from the rows' values and ranks, or from the codes of its parts.
-pub fn record_code(
-    table: &[u8],
-    ops: &[u8; 512],
-    ends: &[u8; 128],
-    reach: &[[bool; 32]],
-    marks: &[bool; 128],
-    exits: &[u8; 128],
-    term: u8,
-    columns: usize,
-    rows: &[i32],
-    n: usize,
-    stride: usize,
-    ranks: &[i32],
-    i: usize,
-    j: usize,
-    first: &[i32],
-    second: &[i32],
-    codes: &[u8; 128],
-    k: u8,
-) -> u8
-    requires { Comparable table.now ops.now ends.now reach.now marks.now exits.now term columns rows.now n stride ranks.now
-        × RowOf columns rows.now n i first.now × RowOf columns rows.now n j second.now × (length codes.now ≡ 128)
-        × RecordOf table.now marks.now term k
-        × CodesBelow table.now marks.now first.now second.now k codes.now }
-    ensures { result ≡ code (term_at table.now k) first.now second.now }
-{
-    let at = 4 * (k as usize);
-    let op = ops[at];
-    let l = ops[at + 1] as usize;
-    if op < 2 {
-        let v = first[l];
-        let w = second[l];
+impl Pair<'_> {
+    // The code of marked record k from the rows' values and ranks, or from the codes of its parts.
+    #[inline(always)]
+    pub fn record_code(&self, k: u8, codes: &[u8; 128]) -> u8
+        requires record_of { RecordOf self.now.of.now.table.now self.now.of.now.marks.now self.now.of.now.term k }
+        requires below { CodesBelow self.now.of.now.table.now self.now.of.now.marks.now self.now.first.now
+            self.now.second.now k codes.now }
+        ensures { result ≡ code (term_at self.now.of.now.table.now k) self.now.first.now self.now.second.now }
+    {
+        let step = self.of.ops[k as usize];
+        match step.op {
+            Op::ByRank | Op::Places => self.values_code(k, step),
+            op => joined(op, codes[step.left as usize], codes[step.right as usize]),
+        }
+    }
+
+    // The code of the rows' values in the column of base record k.
+    #[inline(always)]
+    fn values_code(&self, k: u8, step: Step) -> u8
+        requires record_of { RecordOf self.now.of.now.table.now self.now.of.now.marks.now self.now.of.now.term k }
+        requires step { step ≡ step_of (record_at self.now.of.now.table.now k) }
+        requires base { is_base step.op ≡ true }
+        ensures { result ≡ code (term_at self.now.of.now.table.now k) self.now.first.now self.now.second.now }
+    {
+        let v = self.first[step.left as usize];
+        let w = self.second[step.left as usize];
         if v == w {
             return 0;
         }
-        let x = rank_at(stride, ranks, i, k);
-        let y = rank_at(stride, ranks, j, k);
-        if op == 0 {
-            return by_rank(x, y);
+        let x = self.of.rank_at(self.i, k);
+        let y = self.of.rank_at(self.j, k);
+        match step.op {
+            Op::Places => self.of.explicit_code(k, v, w, x, y),
+            _ => by_rank(x, y),
         }
-        let place = k as usize;
-        return explicit_code(table, reach, k, ends[place], v, w, x, y);
     }
-    let r = ops[at + 2] as usize;
-    joined(op, codes[l], codes[r])
 }
 
 // A compound's code from its parts'.
-fn joined(op: u8, a: u8, b: u8) -> u8
+fn joined(op: Op, a: u8, b: u8) -> u8
     ensures { result ≡ op_code op a b }
 {
-    if op == 2 {
-        return a | b;
+    match op {
+        Op::Join => a | b,
+        Op::Prior => prior_code(a, b),
+        _ => turned_code(a),
     }
-    if op == 3 {
-        return prior_code(a, b);
-    }
-    turned_code(a)
-}
-
-// The rank of row i under record k.
-fn rank_at(stride: usize, ranks: &[i32], i: usize, k: u8) -> i32
-    requires { i / 64 * stride + k * 64 + i % 64 < length ranks.now }
-    ensures { result ≡ get_or ranks.now (i / 64 * stride + k * 64 + i % 64) (pos 0) }
-{
-    ranks[i / 64 * stride + (k as usize) * 64 + i % 64]
 }

@@ -3,5 +3,6 @@
 
 mod by_record;
 mod codes;
+mod pair;
 mod values;
 pub mod vetted;

@@ -1,4 +1,5 @@
--- One block of naming, over any relation: a kept row is named for the rows that it beats and that have no name. Assumes nothing.
+-- One block of naming, over any relation: a kept row is named for the rows that it beats and that have no name, and a row that
+-- is gone for none. Assumes nothing.
 use mathlib.Core.Path.{◌≡◌, refl, sym, ◌∙◌}
 use mathlib.Core.Logic.{inl, inr, ⊎_elim}
 use mathlib.Core.Bool.{Bool, true, false, cond, ◌&&◌}
@@ -12,14 +13,24 @@ use Rattle.model.specs.Query.{kept}
 use Rattle.laws.specs.Bools.{on-or-off}
 use Rattle.laws.specs.Order.{Rel}
 use Rattle.laws.specs.Elimination.{Settled}
+use Rattle.laws.specs.Gone.{dropped-of}
 use Rattle.laws.specs.Wrote.{Wrote}
 use Rattle.lanes.specs.Lit.{pending, hit}
 use Rattle.lanes.specs.Marks.{name_lane}
 use Rattle.blocks.specs.Alive.{Beyond}
 use Rattle.blocks.specs.Hits.{Hits, Dark, in_block}
-use Rattle.laws.specs.Named.{Right}
+use Rattle.laws.specs.Named.{Right, Named}
 use Rattle.parts.specs.Naming.{Naming}
-use Rattle.parts.specs.Lowest.{named-next}
+use Rattle.parts.specs.Lowest.{named-next, named-dropped}
+
+-- A row that is gone names none.
+pub named_gone : (beats : Rel ℕ) (n i : ℕ) (gone by : List ℕ) → Settled beats n gone → i < n → (get_or gone i 0 ≡ 0 → ⊥)
+    → Named beats n i by → Named beats n (i + 1) by
+named_gone beats n i gone by settled l e r =
+    let k = dropped-of beats n i gone settled l e in
+    record {
+      each = λ j h d. ⊎_elim (λ q. inl (q ∙ sym (named-dropped beats n i j k))) (λ f. inr f) (r.each j h d);
+    }
 
 -- ---- one lane
 

@@ -33,8 +33,8 @@ module _ (beats : Rel ℕ) (n : ℕ) where
 
   module _ (m : ℕ) (by : List ℕ) (before : NamedTo beats n m by) where
     -- Row m is right as it is.
-    to-next : (m < n → kept n beats m ≡ false → Right beats n n m (get_or by m 0)) → NamedTo beats n (m + 1) by
-    to-next right =
+    to_next : (m < n → kept n beats m ≡ false → Right beats n n m (get_or by m 0)) → NamedTo beats n (m + 1) by
+    to_next right =
         record {
           done = λ i p l d. ⊎_elim
               (λ q. let f : kept n beats m ≡ false = rw q at d in rw q (right (omega arith) f))
@@ -44,12 +44,16 @@ module _ (beats : Rel ℕ) (n : ℕ) where
         }
 
     -- It is kept,
-    pub to-kept : kept n beats m ≡ true → NamedTo beats n (m + 1) by
-    to-kept k = to-next (λ l d. absurd (false≢true (sym d ∙ k)))
+    pub to_kept : kept n beats m ≡ true → NamedTo beats n (m + 1) by
+    to_kept k = to_next (λ l d. absurd (false≢true (sym d ∙ k)))
 
     -- or it has its name,
-    pub to-known : (get_or by m 0 ≡ 1024 → ⊥) → NamedTo beats n (m + 1) by
-    to-known e = to-next (λ l d. known-right m (get_or by m 0) e (before.left m (omega arith) l d))
+    pub to_known : (get_or by m 0 ≡ 1024 → ⊥) → NamedTo beats n (m + 1) by
+    to_known e = to_next (λ l d. known-right m (get_or by m 0) e (before.left m (omega arith) l d))
+
+    -- or there is none,
+    pub to_none : get_or by m 0 ≡ 1024 → named beats n n m ≡ 1024 → NamedTo beats n (m + 1) by
+    to_none e z = to_next (λ l d. inl (e ∙ sym z))
 
     -- or it gets it.
     pub to_named : {v : ℕ} → m < length by → v ≡ named beats n n m → NamedTo beats n (m + 1) (set by m v)

@@ -1,10 +1,11 @@
 -- The buffers at the start and the answers at the end, over any relation: `beats j i` reads "row j is in row i's set and
 -- better". Assumes nothing.
-use Rattle.std.specs.Prelude.{◌≡◌, refl, true, false, List, ℕ, ◌+◌, ◌<◌, ◌≤◌, eqb, ltb, get_or, replicate}
+use Rattle.std.specs.Prelude.{◌≡◌, refl, true, false, List, ◌++◌, ℕ, ◌+◌, ◌-◌, ◌<◌, ◌≤◌, eqb, ltb, length, get_or, drop, replicate}
 use Rattle.std.proofs.Common.{sym, ◌∙◌, inl, inr, arith}
 use Rattle.std.proofs.Math.Logic.{⊎_elim}
 use Rattle.std.proofs.Math.Bool.{and-false}
-use Rattle.std.proofs.lemmas.List.{get_or-replicate}
+use Rattle.std.proofs.Math.ListN.{get_or-append}
+use Rattle.std.proofs.lemmas.List.{length-replicate, get_or-replicate, get_or-append_right, get_or-drop}
 use borrow.Author.Tests.{eqb-true, eq-eqb, ltb-true}
 use Rattle.model.specs.Search.{any_below, fill}
 use Rattle.model.specs.Query.{kept, answer}
@@ -23,6 +24,21 @@ use Rattle.laws.specs.Named.{kept_better, named, Right, Named}
 use Rattle.parts.specs.Entry.{entry_of, name_of, first_name}
 
 -- ---- the start
+
+-- A buffer of which the first n entries were filled with v, and the others left.
+pub filled : (v n : ℕ) (old : List ℕ) {head : List ℕ} → n ≤ length old → head ≡ replicate n v
+    → Wrote 0 (λ j. v) 0 n old (head ++ drop n old)
+filled v n old {head} room is =
+    let long : length head ≡ n = rw is (length-replicate n v) in
+    record {
+      made = λ j l.
+          let q : 0 + j ≡ j = omega arith in
+          rw q (get_or-append head (drop n old) 0 j (omega (arith, long)) ∙ rw is (get_or-replicate n j v 0 l));
+      below = λ x l. absurd (omega arith);
+      above = λ x l.
+          let back : n + (x - n) ≡ x = omega arith in
+          get_or-append_right head (drop n old) n x 0 long (omega arith) ∙ get_or-drop n old (x - n) 0 ∙ rw back;
+    }
 
 -- The first n entries were written.
 written : (v n : ℕ) (old new : List ℕ) → Wrote 0 (λ j. v) 0 n old new → (j : ℕ) → j < n → get_or new j 0 ≡ v

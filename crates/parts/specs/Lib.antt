@@ -1,3 +1,4 @@
+pub mod Beats
 pub mod LowestIn
 pub mod Naming
 pub mod Lowest

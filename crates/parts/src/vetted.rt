@@ -1,113 +1,28 @@
 // The engine by parts: a wish's answers come from those of its parts. Ranks of every base record beneath the asked term once
 // per query; then for a row and a block of 64 rows one code per row and record, compounds from their parts' codes; rows that
 // are beaten are gone; then the kept rows name the rows that they beat.
-ghost use Rattle.std.specs.Prelude.{◌≤◌, length};
-ghost use Rattle.model.specs.Term.{term_at};
-ghost use Rattle.model.specs.Query.{beats_in, row_count};
-ghost use Rattle.laws.specs.Taken.{Taken};
-ghost use Rattle.selection.specs.Selected.{AskedRows, StrideFor, Selected};
+use crate::block_entries::in_cells;
+use selection::vetted::asked::Asked;
+use selection::vetted::engine::Engine;
 
-use crate::rooms::{in_1024_ranks, in_8192_ranks, in_many_ranks};
+// Codes of a wish from those of its parts, for a block of 64 rows at a time.
+pub struct Parts;
 
-// Writes the entries. Returns how many rows are kept. A block's ranks are 64 for each record up to the term. Few rows and few
-// records need little room: clearing it all costs more than they do.
-pub fn selected(
-    table: &[u8],
-    columns: usize,
-    rows: &[i32],
-    term: u8,
-    group: u8,
-    answers: &mut [u16],
-) -> u16
-    requires { Taken table.now columns rows.now term group answers.old }
-    ensures { Selected (beats_in (term_at table.now term) columns rows.now group)
-        (row_count columns rows.now) answers.old answers.new result }
-{
-    let n = rows.len() / columns;
-    let stride = (term as usize) * 64 + 64;
-    if n <= 64 {
-        return in_one_block(table, columns, rows, n, stride, term, group, answers);
+impl Engine for Parts {
+    // Room for the cells of one block of 64 rows, of four, or of all 16.
+    fn select(
+        asked: &Asked,
+        ends: &[u8; 128],
+        reach: &[[bool; 32]],
+        ranks: &mut [i32],
+        answers: &mut [u16],
+    ) -> u16 {
+        if asked.rows.n <= 64 {
+            return in_cells::<512>(asked, ends, reach, ranks, answers);
+        }
+        if asked.rows.n <= 256 {
+            return in_cells::<2048>(asked, ends, reach, ranks, answers);
+        }
+        in_cells::<8192>(asked, ends, reach, ranks, answers)
     }
-    if n <= 256 {
-        return in_four_blocks(table, columns, rows, n, stride, term, group, answers);
-    }
-    in_blocks(table, columns, rows, n, stride, term, group, answers)
-}
-
-// One block of up to 64 rows: 16 records, or all 128.
-fn in_one_block(
-    table: &[u8],
-    columns: usize,
-    rows: &[i32],
-    n: usize,
-    stride: usize,
-    term: u8,
-    group: u8,
-    answers: &mut [u16],
-) -> u16
-    requires { AskedRows table.now columns term rows.now n × StrideFor term stride × (n ≤ 64) × (n ≤ length answers.old) }
-    ensures { Selected (beats_in (term_at table.now term) columns rows.now group) n
-        answers.old answers.new result }
-{
-    let mut cells = [0i32; 512];
-    if stride <= 1024 {
-        return in_1024_ranks(
-            table, columns, rows, n, stride, term, group, &mut cells, answers,
-        );
-    }
-    in_8192_ranks(
-        table, columns, rows, n, stride, term, group, &mut cells, answers,
-    )
-}
-
-// Four blocks: 32 records, or more.
-fn in_four_blocks(
-    table: &[u8],
-    columns: usize,
-    rows: &[i32],
-    n: usize,
-    stride: usize,
-    term: u8,
-    group: u8,
-    answers: &mut [u16],
-) -> u16
-    requires { AskedRows table.now columns term rows.now n × StrideFor term stride × (n ≤ 256) × (n ≤ length answers.old) }
-    ensures { Selected (beats_in (term_at table.now term) columns rows.now group) n
-        answers.old answers.new result }
-{
-    let mut cells = [0i32; 2048];
-    if stride <= 2048 {
-        return in_8192_ranks(
-            table, columns, rows, n, stride, term, group, &mut cells, answers,
-        );
-    }
-    in_many_ranks(
-        table, columns, rows, n, stride, term, group, &mut cells, answers,
-    )
-}
-
-// All 16 blocks of 1,024 rows: 8 records, or more.
-fn in_blocks(
-    table: &[u8],
-    columns: usize,
-    rows: &[i32],
-    n: usize,
-    stride: usize,
-    term: u8,
-    group: u8,
-    answers: &mut [u16],
-) -> u16
-    requires { AskedRows table.now columns term rows.now n × StrideFor term stride × (n ≤ length answers.old) }
-    ensures { Selected (beats_in (term_at table.now term) columns rows.now group) n
-        answers.old answers.new result }
-{
-    let mut cells = [0i32; 8192];
-    if stride <= 512 {
-        return in_8192_ranks(
-            table, columns, rows, n, stride, term, group, &mut cells, answers,
-        );
-    }
-    in_many_ranks(
-        table, columns, rows, n, stride, term, group, &mut cells, answers,
-    )
 }

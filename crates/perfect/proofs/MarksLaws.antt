@@ -4,7 +4,6 @@ use mathlib.Core.Bool.{Bool, true, false, not, false≢true}
 use mathlib.Core.List.{List}
 use Prim.Native.Nat.{ℕ, ◌+◌, ◌<◌, ◌≤◌}
 use native.Mathlib.Omega.{arith}
-use lib.IntN.{ℤ}
 use lib.ListN.{length, get_or, set}
 use Rattle.model.specs.declared.{Record.Record, BaseTerm.BaseTerm, CompoundTerm.CompoundTerm}
 use Rattle.model.specs.Bytes.{byte_at, Value32}
@@ -19,9 +18,9 @@ use Rattle.laws.proofs.AcceptedMarks.{base-perfect, base-odd}
 use Rattle.laws.specs.AcceptedTable.{accepted-table}
 use Rattle.laws.specs.Runs.{values_between}
 use Rattle.laws.specs.Fill.{fill_more}
-use Rattle.terms.specs.Prepared.{Numbers, Run, RunEnds}
+use Rattle.terms.specs.Prepared.{Run, RunEnds}
 use Rattle.perfect.specs.Base.{base_mark}
-use Rattle.perfect.specs.Marks.{record_mark, CellFits, Asked, Marking}
+use Rattle.perfect.specs.Marks.{record_mark, CellFits, Asked}
 
 -- The marks of the terms below record k.
 abbrev pub Below : List ℕ → Row → Bool → ℕ → (ℕ → Bool) → Type 0
@@ -59,18 +58,13 @@ pub asked-few : (table : List ℕ) (term : ℕ) → Asked table term → term < 
 asked-few table term a =
     omega (arith, a.taken.below, (accepted-table table a.columns a.taken.is_accepted).few_records)
 
-module _ (table : List ℕ) (numbers : List ℤ) (ends : List ℕ) (term : ℕ) (a : Asked table term)
-    (n : Numbers table numbers) (run : RunEnds table ends) (k : ℕ) (h : k ≤ term) (r : Record)
+module _ (table : List ℕ) (ends : List ℕ) (term : ℕ) (a : Asked table term) (run : RunEnds table ends) (k : ℕ) (h : k ≤ term) (r : Record)
     (e : r ≡ record_at table k) where
   low : k < record_count table
   low = omega (arith, a.taken.below)
 
   here : is_term r ≡ true → Run table k (get_or ends k 0)
   here t = run.each k low (rw e at t)
-
-  -- A record up to the asked one is ready to be marked,
-  pub marking : Marking table numbers k (get_or ends k 0) r
-  marking = record { prepared = λ t. record { values = (here t).values; numbers32 = n } }
 
   module _ (bytes : (i : ℕ) → byte_at table i < 256) (row : Row) (fits : CellFits r row)
       (odd : Bool) (own other : List Bool) (wide : k < length own)
@@ -86,7 +80,7 @@ module _ (table : List ℕ) (numbers : List ℤ) (ends : List ℕ) (term : ℕ) 
           ∙ record_is table a.columns a.taken.is_accepted bytes row k low odd (λ i. get_or own i false)
           (λ i. get_or other i false) these those r (sym e) (rw e t) fits
 
-      -- and its mark is stored with the others.
+      -- Its mark is stored with the others.
       pub marks-more : Below table row odd (k + 1) (λ i. get_or (set own k m) i false)
       marks-more =
           fill_more false (λ i v. is_term (record_at table i) ≡ true → v ≡ perfect odd (term_at table i) row) own k m wide these

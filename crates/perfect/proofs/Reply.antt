@@ -3,7 +3,9 @@ use mathlib.Core.Path.{◌≡◌, refl, sym, ◌∙◌, ap}
 use mathlib.Core.Bool.{Bool, true, false, false≢true}
 use mathlib.Core.List.{List}
 use Prim.Native.Nat.{ℕ}
-use Rattle.model.specs.declared.{Verdict.Verdict, Mark.Mark, PerfectReply.PerfectReply}
+use Rattle.std.specs.Prelude.{Ok, Err}
+use Rattle.model.specs.Words.{Verdict, PerfectReply}
+use Rattle.model.specs.declared.Mark.{Mark}
 use Rattle.model.specs.Term.{term_at}
 use Rattle.model.specs.Better.{Row}
 use Rattle.model.specs.Check.{by_verdict}
@@ -15,27 +17,27 @@ use Rattle.perfect.specs.Marks.{Asked}
 use Rattle.perfect.specs.Says.{Says}
 
 is_yes : PerfectReply → Bool
-is_yes (PerfectReply.Marked Mark.Yes) = true
-is_yes (PerfectReply.Marked Mark.No) = false
-is_yes (PerfectReply.Refused why) = false
+is_yes (Ok Mark.Yes) = true
+is_yes (Ok Mark.No) = false
+is_yes (Err why) = false
 
 is_no : PerfectReply → Bool
-is_no (PerfectReply.Marked Mark.Yes) = false
-is_no (PerfectReply.Marked Mark.No) = true
-is_no (PerfectReply.Refused why) = false
+is_no (Ok Mark.Yes) = false
+is_no (Ok Mark.No) = true
+is_no (Err why) = false
 
 module _ (table : List ℕ) (columns term : ℕ) (row : Row) where
   says-by : (v : Verdict) (b : Bool) → perfect false (term_at table term) row ≡ b
-      → Says table term row (by_verdict v PerfectReply.Refused (PerfectReply.Marked (mark_of b)))
+      → Says table term row (by_verdict v Err (Ok (mark_of b)))
   unfolding is_yes is_no
-  says-by (Verdict.Refused why) b e =
+  says-by (Err why) b e =
       record { yes = λ q. absurd (false≢true (ap is_yes q)); no = λ q p. false≢true (ap is_no q) }
-  says-by Verdict.Passed true e =
+  says-by (Ok u) true e =
       record {
         yes = λ q. (perfect-all false (term_at table term) row).0 e;
         no = λ q p. false≢true (ap is_no q);
       }
-  says-by Verdict.Passed false e =
+  says-by (Ok u) false e =
       record {
         yes = λ q. absurd (false≢true (ap is_yes q));
         no = λ q p. false≢true (sym e ∙ (perfect-all false (term_at table term) row).1 p);
@@ -52,5 +54,5 @@ module _ (table : List ℕ) (columns term : ℕ) (row : Row) where
   says r e = (e, rw e reply-says)
 
   -- Where nothing is refused, the term asked for is one of an accepted table.
-  pub asked : (unfit : Bool) → term_verdict table columns unfit term ≡ Verdict.Passed → Asked table term
+  pub asked : (unfit : Bool) → term_verdict table columns unfit term ≡ Ok tt → Asked table term
   asked unfit e = record { columns = columns; taken = (term-gives table columns unfit term e).0 }

@@ -1,5 +1,5 @@
 -- The marks of a table's terms, record by record (SPECIFICATION, "Perfect").
-use Rattle.std.specs.Prelude.{◌≡◌, Bool, true, false, ◌&&◌, List, ℕ, ℤ}
+use Rattle.std.specs.Prelude.{◌≡◌, Bool, true, false, ◌&&◌, List, ℕ}
 use Rattle.model.specs.declared.{Record.Record, Value.Value, CompoundTerm.CompoundTerm}
 use Rattle.model.specs.declared.Record.TheVariants.{Base, Compound, Unknown}
 use Rattle.model.specs.declared.CompoundTerm.TheVariants.{Joined, Dual}
@@ -7,7 +7,8 @@ use Rattle.model.specs.Bytes.{Value32}
 use Rattle.model.specs.Record.{is_term}
 use Rattle.model.specs.Better.{Row, cell}
 use Rattle.laws.specs.Taken.{TakenTerm}
-use Rattle.perfect.specs.Base.{base_mark, Prepared}
+use Rattle.terms.specs.Run.{Values}
+use Rattle.perfect.specs.Base.{base_mark}
 
 -- Of a compound, from its parts' own marks and, for DUAL, the other ones.
 abbrev pub parts_mark : CompoundTerm → (ℕ → Bool) → (ℕ → Bool) → Bool
@@ -28,9 +29,9 @@ CellFits (Base column b) row = Value32 (cell row column)
 CellFits (Compound c) row = Unit {0}
 CellFits Unknown row = Unit {0}
 
--- Record r is to be marked: if it is a term, its values are prepared.
-pub record Marking (table : List ℕ) (numbers : List ℤ) (k e : ℕ) (r : Record) : Type 0 where
-  pub prepared : is_term r ≡ true → Prepared table numbers k e
+-- Record r is to be marked: if it is a term, its values are the records from k + 1 to before e.
+pub record Marking (table : List ℕ) (k e : ℕ) (r : Record) : Type 0 where
+  pub values : is_term r ≡ true → Values table k e
 
 -- The check has accepted the table for some number of columns, and the number given is a term record of it.
 pub record Asked (table : List ℕ) (term : ℕ) : Type 0 where

@@ -5,11 +5,11 @@ mod extremes;
 mod marks;
 
 ghost use Rattle.std.specs.Prelude.{◌≡◌};
-ghost use Rattle.model.specs.Perfect.{mark_of, perfect_reply};
+ghost use Rattle.model.specs.Perfect.{perfect_reply};
 ghost use Rattle.perfect.specs.Says.{Says};
 
 use crate::marks::is_perfect;
-use model::{Mark, PerfectReply, Verdict};
+use model::{Mark, PerfectReply};
 use table::vetted::asked::term_verdict;
 
 // Perfect: whether the row is perfect for the term; or the first refusal of 1 to 16 with its place. It takes any bytes, any
@@ -19,19 +19,7 @@ pub fn perfect(table: &[u8], columns: usize, term: usize, row: &[i32]) -> Perfec
         × Says table.now term row.now result }
 {
     let unfit = row.len() != columns;
-    let verdict = term_verdict(table, columns, unfit, term);
-    match verdict {
-        Verdict::Refused(why) => PerfectReply::Refused(why),
-        Verdict::Passed => PerfectReply::Marked(mark(is_perfect(table, term as u8, row))),
-    }
-}
-
-// Perfect or not.
-fn mark(yes: bool) -> Mark
-    ensures { result ≡ mark_of yes }
-{
-    if yes {
-        return Mark::Yes;
-    }
-    Mark::No
+    term_verdict(table, columns, unfit, term)?;
+    let perfect = is_perfect(table, term as u8, row);
+    Ok(if perfect { Mark::Yes } else { Mark::No })
 }

@@ -5,70 +5,42 @@ ghost use Rattle.model.specs.Term.{term_at};
 ghost use Rattle.model.specs.Better.{cell};
 ghost use Rattle.model.specs.Perfect.{perfect};
 ghost use Rattle.laws.specs.Runs.{values_between};
-ghost use Rattle.terms.specs.Prepared.{Numbers, RunEnds};
 ghost use Rattle.perfect.specs.Marks.{Asked, Marking, CellFits, parts_mark, record_mark};
 
 use crate::extremes::base_mark;
 use model::{CompoundTerm, Record};
-use records::record::record_at;
 use terms::vetted::prepared::{numbers, run_ends};
+use terms::vetted::run::{Numbered, Run};
 
 // Whether the row is perfect for the term.
 pub fn is_perfect(table: &[u8], term: u8, row: &[i32]) -> bool
     requires { Asked table.now term }
     ensures { result ≡ perfect false (term_at table.now term) row.now }
 {
-    let a = numbers(table);
-    let e = run_ends(table);
-    marked(table, &a, &e, term, row)
-}
-
-// The same, with the numbers of the table and the ends of its terms' values at hand.
-fn marked(table: &[u8], numbers: &[i32; 256], ends: &[u8; 128], term: u8, row: &[i32]) -> bool
-    requires { Asked table.now term × Numbers table.now numbers.now × RunEnds table.now ends.now }
-    ensures { result ≡ perfect false (term_at table.now term) row.now }
-{
+    let numbers = numbers(table);
+    let ends = run_ends(table);
+    let of = Numbered {
+        table,
+        numbers: &numbers,
+    };
     let mut best = [false; 256];
     let mut worst = [false; 256];
-    let mut k = 0u8;
-    while k <= term {
+    for k in 0..=term {
         let at = k as usize;
-        let e = ends[at];
-        let b = record_mark(
-            record_at(table, k),
-            table,
-            numbers,
-            k,
-            e,
-            false,
-            row,
-            &best,
-            &worst,
-        );
-        let w = record_mark(
-            record_at(table, k),
-            table,
-            numbers,
-            k,
-            e,
-            true,
-            row,
-            &worst,
-            &best,
-        );
+        let r = of.record(k);
+        let b = record_mark(&of, r, k, ends[at], false, row, &best, &worst);
+        let w = record_mark(&of, r, k, ends[at], true, row, &worst, &best);
         best[at] = b;
         worst[at] = w;
-        k += 1;
     }
-    let at = term as usize;
-    best[at]
+    best[term as usize]
 }
 
 // The mark of record k, from its parts' marks: their own, and the other ones for DUAL.
+// As it is: eight parameters, since its two calls exchange `own` and `other`, which a struct of both would hide: no plainer.
 fn record_mark(
+    of: &Numbered,
     r: Record,
-    table: &[u8],
-    numbers: &[i32; 256],
     k: u8,
     e: u8,
     odd: bool,
@@ -76,16 +48,18 @@ fn record_mark(
     own: &[bool; 256],
     other: &[bool; 256],
 ) -> bool
-    requires { Marking table.now numbers.now k e r }
-    ensures { (result ≡ record_mark odd r (values_between table.now k e) row.now
-        (λ i. get_or own.now i false) (λ i. get_or other.now i false))
-        × CellFits r row.now }
+    requires { Marking of.now.table.now k e r }
+    ensures mark { result ≡ record_mark odd r (values_between of.now.table.now k e) row.now
+        (λ i. get_or own.now i false) (λ i. get_or other.now i false) }
+    ensures fits { CellFits r row.now }
 {
     match r {
-        Record::Value(_) => false,
-        Record::Base(column, b) => base_mark(b, table, numbers, k, e, odd, cell_of(row, column)),
+        Record::Base(column, b) => {
+            let run = Run { of: *of, k, e };
+            base_mark(b, &run, odd, cell_of(row, column))
+        }
         Record::Compound(c) => parts_mark(c, own, other),
-        Record::Unknown => false,
+        Record::Value(_) | Record::Unknown => false,
     }
 }
 
@@ -94,25 +68,15 @@ fn parts_mark(c: CompoundTerm, own: &[bool; 256], other: &[bool; 256]) -> bool
     ensures { result ≡ parts_mark c (λ i. get_or own.now i false) (λ i. get_or other.now i false) }
 {
     match c {
-        CompoundTerm::Joined(_, p, q) => {
-            let i = p as usize;
-            let j = q as usize;
-            own[i] & own[j]
-        }
-        CompoundTerm::Dual(p) => {
-            let i = p as usize;
-            other[i]
-        }
+        CompoundTerm::Joined(_, p, q) => own[p as usize] & own[q as usize],
+        CompoundTerm::Dual(p) => other[p as usize],
     }
 }
 
 // The row's value in a column; 0 past its end.
+#[tactic(auto, unfolding(model::specs::Better::cell))]
 fn cell_of(row: &[i32], column: u8) -> i32
     ensures { result ≡ cell row.now column }
 {
-    let at = column as usize;
-    if at < row.len() {
-        return row[at];
-    }
-    0
+    row.get(column as usize).copied().unwrap_or(0)
 }

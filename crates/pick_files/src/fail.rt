@@ -21,8 +21,5 @@ fn words(text: &str) -> &str {
 
 // A path as a line names it.
 pub fn shown(path: &[u8]) -> &str {
-    match str::from_utf8(path) {
-        Ok(text) => text,
-        Err(_) => "a path that is not text",
-    }
+    str::from_utf8(path).unwrap_or("a path that is not text")
 }

@@ -17,11 +17,11 @@ pub fn run(rt: &(impl Files + Print + Eprint), prefs: &[u8], rows: &[u8]) {
     let first = read_file(rt, prefs, &mut table);
     let mut bytes = [0u8; 32769];
     let second = read_file(rt, rows, &mut bytes);
-    if first.missing & second.missing {
+    if first.is_none() && second.is_none() {
         say_missing(rt, prefs, rows);
     }
-    let t = first.bytes;
-    let n = second.bytes;
+    let t = first.unwrap_or(0);
+    let n = second.unwrap_or(0);
     let mut out = [0u8; MOST_TEXT];
     let r = pick_text::pick_text(&table[..t], &bytes[..n], &mut out);
     if let Err(error) = rt.write_all(&out[..r]) {

@@ -1,35 +1,27 @@
 // The start of a file, read into a buffer.
-ghost use Rattle.std.specs.Prelude.{◌≡◌, ◌≤◌, length, take};
+ghost use Rattle.std.specs.Prelude.{◌≡◌, ◌≤◌, length, take, IfOk, IfSome};
 
 use crate::fail::{fail, shown};
 use std::io::{ErrorKind, Read};
 use std::rt::Files;
 use std::{fs, io};
 
-// The start of a file: how many bytes were read, and whether the system calls the file missing.
-#[derive(Drop)]
-pub struct Start {
-    pub missing: bool,
-    pub bytes: usize,
-}
-
-// Reads the start of a file, as far as the buffer goes. A missing file reads as empty. One that is there but cannot be
-// read counts as empty, and a line on standard error names it.
-pub fn read_file<R: Files + Eprint>(rt: &R, path: &[u8], buf: &mut [u8]) -> Start
-    ensures within { result.bytes ≤ length buf.new }
-    ensures prefix { result.bytes ≡ length (take result.bytes buf.new) }
+// Reads the start of a file, as far as the buffer goes. Returns how many bytes, or `None` where the system calls the file
+// missing. One that is there but cannot be read counts as empty, and a line on standard error names it.
+pub fn read_file<R: Files + Eprint>(rt: &R, path: &[u8], buf: &mut [u8]) -> Option<usize>
+    ensures within { IfSome result (λ n. n ≤ length buf.new) }
+    ensures prefix { IfSome result (λ n. n ≡ length (take n buf.new)) }
 {
-    match open_read(rt, path) {
-        Ok(mut file) => Start {
-            missing: false,
-            bytes: read_open(rt, &mut file, path, buf),
-        },
+    let read = match open_read(rt, path) {
+        Ok(mut file) => read_open(&mut file, buf),
+        Err(error) if error.kind() == ErrorKind::NotFound => return None,
+        Err(error) => Err(error),
+    };
+    match read {
+        Ok(n) => Some(n),
         Err(error) => {
-            let missing = error.kind() == ErrorKind::NotFound;
-            if !missing {
-                fail(rt, shown(path), &error);
-            }
-            Start { missing, bytes: 0 }
+            fail(rt, shown(path), &error);
+            Some(0)
         }
     }
 }
@@ -42,24 +34,19 @@ fn open_read<R: Files>(rt: &R, path: &[u8]) -> io::Result<R::File> {
     }
 }
 
-// Reads an open file until the buffer is full or the file ends.
-fn read_open<F: Read>(rt: &impl Eprint, file: &mut F, path: &[u8], buf: &mut [u8]) -> usize
-    ensures within { result ≤ length buf.new }
-    ensures prefix { result ≡ length (take result buf.new) }
+// Reads an open file until the buffer is full or the file ends. Returns how many bytes were read.
+fn read_open<F: Read>(file: &mut F, buf: &mut [u8]) -> io::Result<usize>
+    ensures within { IfOk result (λ n. n ≤ length buf.new) }
+    ensures prefix { IfOk result (λ n. n ≡ length (take n buf.new)) }
 {
     let mut n = 0;
+    // As it is: no range gives the next place, since each read says how far it came.
     while n < buf.len() {
-        let got = match file.read(&mut buf[n..]) {
-            Ok(got) => got,
-            Err(error) => {
-                fail(rt, shown(path), &error);
-                return 0;
-            }
-        };
+        let got = file.read(&mut buf[n..])?;
         if got == 0 {
-            return n;
+            return Ok(n);
         }
         n += got;
     }
-    n
+    Ok(n)
 }

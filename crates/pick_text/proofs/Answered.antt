@@ -1,15 +1,17 @@
 -- The text of an accepted table and a file of rows that is not refused, by the reply of Query (SPECIFICATION, "The
 -- program pick"). Assumes nothing.
-use mathlib.Core.Path.{◌≡◌, refl, ap, ◌∙◌}
+use mathlib.Core.Path.{◌≡◌, refl, sym, ap, ◌∙◌}
 use mathlib.Core.Bool.{false, not}
 use mathlib.Core.List.{List, ◌++◌}
 use Prim.Native.Nat.{ℕ, zero, suc, ◌/◌, ◌%◌, ◌<◌, ◌≤◌}
 use native.Mathlib.Omega.{arith}
 use lib.Dec.{ltb, eqb}
 use lib.IntN.{ℤ}
-use lib.ListN.{length, get_or}
+use lib.ListN.{length, get_or, take}
+use lib.Seq.{get_or-take, length-take-le}
 use borrow.Author.Tests.{eqb-true, eq-eqb, le-ltb, ltb-false, not-false}
-use Rattle.model.specs.declared.{Refusal.Refusal, Verdict.Verdict, Summary.Summary, CheckReply.CheckReply, QueryReply.QueryReply}
+use Rattle.std.specs.Prelude.{Ok, Err}
+use Rattle.model.specs.declared.{Refusal.Refusal, Summary.Summary}
 use Rattle.model.specs.Search.{any_below, fill}
 use Rattle.model.specs.Bytes.{bit, numbers}
 use Rattle.model.specs.Check.{table_verdict, summary, check_reply}
@@ -35,13 +37,19 @@ file-sizes rows fits =
     let e = or_off (ltb 32768 (length rows)) (not (eqb (length rows % 32) 0)) fits in
     (ltb-false 32768 (length rows) e.0, eqb-true (length rows % 32) 0 (not-false (eqb (length rows % 32) 0) e.1))
 
-module _ (prefs rows : List ℕ) (s : Summary) (accepted : check_reply prefs 8 ≡ CheckReply.Accepted s) where
+-- The run that is filled has the numbers of the file.
+pub run-is : (rows : List ℕ) (old : List ℤ) {given : List ℤ} → fails_file rows ≡ false
+    → given ≡ numbers rows (length (take (length rows / 4) old)) → 8192 ≤ length old → given ≡ numbers rows (length rows / 4)
+run-is rows old fits filled long =
+    filled ∙ ap (numbers rows) (length-take-le (length rows / 4) old (omega (arith, (file-sizes rows fits).0, long)))
+
+module _ (prefs rows : List ℕ) (s : Summary) (accepted : check_reply prefs 8 ≡ Ok s) where
   -- The summary and the verdict that this reply tells.
   is-summary : s ≡ summary prefs
   is-summary = reply-summary prefs 8 s accepted
 
-  pub passed : table_verdict prefs 8 ≡ Verdict.Passed
-  passed = (reply-verdict prefs 8).0 (accepted ∙ ap CheckReply.Accepted is-summary)
+  pub passed : table_verdict prefs 8 ≡ Ok tt
+  passed = (reply-verdict prefs 8).0 (accepted ∙ ap Ok is-summary)
 
   module _ (fits : fails_file rows ≡ false) where
     abbrev run : List ℤ
@@ -87,7 +95,7 @@ module _ (prefs rows : List ℕ) (s : Summary) (accepted : check_reply prefs 8 �
 
     -- So it refuses nothing
     replied : (before : List ℕ) → 1024 ≤ length before
-        → query_reply prefs 8 run s.top 0 before ≡ QueryReply.Kept (kept_count most (pick_beats prefs rows))
+        → query_reply prefs 8 run s.top 0 before ≡ Ok (kept_count most (pick_beats prefs rows))
     unfolding query_reply pick_beats summary
     replied before long =
         rw (taken-from prefs 8 run s.top 0 before (taken before long), rows-number, is-summary)
@@ -119,17 +127,25 @@ module _ (prefs rows : List ℕ) (s : Summary) (accepted : check_reply prefs 8 �
     -- Query on the numbers of the file.
     module _ (given : List ℤ) (same : given ≡ run) (before : List ℕ) (long : 1024 ≤ length before) where
       -- It does not refuse.
-      pub not-refused : (why : Refusal) → query_reply prefs 8 given s.top 0 before ≡ QueryReply.Refused why → ⊥
+      pub not-refused : (why : Refusal) → query_reply prefs 8 given s.top 0 before ≡ Err why → ⊥
       not-refused why e =
           let r = replied before long in
           let z : ◌≡◌ {A = ℕ} 0 1 = cc in
           omega arith
 
-      -- The text by what it gives and writes.
-      pub kept-text : (kept : ℕ) → query_reply prefs 8 given s.top 0 before ≡ QueryReply.Kept kept
-          → ok_text s kept ++ rows_text most (λ i. get_or (query_buffer prefs 8 given s.top 0 before) i 0)
-          ≡ pick_text prefs rows
-      kept-text kept e =
+      -- The text by what it gives, and by the entries that it writes for the rows.
+      pub kept-text : (kept : ℕ) → query_reply prefs 8 given s.top 0 before ≡ Ok kept
+          → (after : List ℕ) → after ≡ query_buffer prefs 8 given s.top 0 before → 1024 ≤ length after
+          → pick_text prefs rows ≡ ok_text s kept ++ rows_text (length (take most after)) (λ i. get_or (take most after) i 0)
+      kept-text kept e after is enough =
           let r = replied before long in
           let k : kept ≡ kept_count most (pick_beats prefs rows) = cc in
-          rw (same, k) (answered before long)
+          let n : length (take most after) ≡ most = length-take-le most after (omega (arith, sizes.0, enough)) in
+          let f = λ (i : ℕ). get_or (take most after) i 0 in
+          let t : ok_text s kept ++ rows_text most (λ i. get_or after i 0) ≡ pick_text prefs rows =
+          rw (is, same, k) (answered before long) in
+          sym
+          (ap (λ (m : ℕ). ok_text s kept ++ rows_text m f) n
+          ∙ ap (λ (l : List ℕ). ok_text s kept ++ l)
+          (rows_same most f (λ i. get_or after i 0) (λ i h. get_or-take most after i 0 h))
+          ∙ t)

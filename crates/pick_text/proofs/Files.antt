@@ -9,7 +9,8 @@ use lib.Dec.{ltb, eqb}
 use lib.ListN.{length, take}
 use lib.Seq.{take_all, length-take-le}
 use borrow.Author.Tests.{lt-ltb, ltb-true, ltb-false}
-use Rattle.model.specs.declared.{Verdict.Verdict}
+use Rattle.std.specs.Prelude.{Ok, Err}
+use Rattle.model.specs.Words.{Verdict}
 use Rattle.model.specs.Replies.{refusal}
 use Rattle.model.specs.Check.{◌then◌, by_verdict, verdict_by, table_verdict, summary, fails_width, fails_length}
 use Rattle.model.specs.Pick.{refused_text, fails_file, pick_verdict, pick_beats, answer_text, pick_text}
@@ -36,12 +37,12 @@ unfolding pick_text pick_verdict
 refused-rows prefs a b e f = rw (e, f) (go (table_verdict prefs 8))
   where
     go : (v : Verdict)
-        → by_verdict (v then Verdict.Refused (refusal 15 0)) refused_text
+        → by_verdict (v then Err (refusal 15 0)) refused_text
         (answer_text (summary prefs) (length a / 32) (pick_beats prefs a))
-        ≡ by_verdict (v then Verdict.Refused (refusal 15 0)) refused_text
+        ≡ by_verdict (v then Err (refusal 15 0)) refused_text
         (answer_text (summary prefs) (length b / 32) (pick_beats prefs b))
-    go Verdict.Passed = refl
-    go (Verdict.Refused why) = refl
+    go (Ok u) = refl
+    go (Err why) = refl
 
 module _ (prefs rows : List ℕ) (a b : ℕ) (long-enough : 1536 < a) (long-enough' : 32768 < b) where
   first_rows : pick_text prefs (take b rows) ≡ pick_text prefs rows

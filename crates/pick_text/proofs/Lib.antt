@@ -4,7 +4,5 @@ pub mod RowLinesTexts
 pub mod LinesTexts
 pub mod Numbers
 pub mod Answered
-pub mod ZerosLaws
 pub mod Refused
 pub mod Files
-pub mod Cleared

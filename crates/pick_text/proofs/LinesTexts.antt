@@ -2,7 +2,8 @@
 use Prim.Native.Nat.{ℕ}
 use mathlib.Core.Path.{◌≡◌}
 use mathlib.Core.List.{List, [], ◌∷◌, ◌++◌, append_assoc}
-use Rattle.model.specs.declared.{Place.Place, Refusal.Refusal, Summary.Summary}
+use Rattle.std.specs.Prelude.{Option}
+use Rattle.model.specs.declared.{Refusal.Refusal, Summary.Summary}
 use Rattle.model.specs.Replies.{listed}
 use Rattle.model.specs.Pick.{text, decimal, line, place_text, refused_text, ok_text}
 
@@ -11,7 +12,7 @@ two_fields : (word a b : List ℕ) → line word (a ∷ b ∷ []) ≡ ((((word +
 unfolding line
 two_fields word a b = simp append_assoc
 
-pub refused : {n : ℕ} {place : Place} (why : Refusal) → n ≡ (listed why).number → place ≡ (listed why).place → refused_text why ≡
+pub refused : {n : ℕ} {place : Option ℕ} (why : Refusal) → n ≡ (listed why).number → place ≡ (listed why).place → refused_text why ≡
     ((((114 ∷ 101 ∷ 102 ∷ 117 ∷ 115 ∷ 101 ∷ 100 ∷ 32 ∷ []) ++ decimal n) ++ (32 ∷ [])) ++ place_text place) ++ (10 ∷ [])
 unfolding refused_text text
 refused why d e = rw (d, e) (two_fields (text "refused") (decimal (listed why).number) (place_text (listed why).place))

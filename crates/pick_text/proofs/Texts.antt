@@ -6,7 +6,7 @@ use mathlib.Core.Bool.{Bool, true, false, cond}
 use mathlib.Core.List.{[], ◌∷◌}
 use borrow.Author.Tests.{lt-ltb, le-ltb, ltb-true}
 use lib.Dec.{ltb}
-use Rattle.model.specs.declared.{Place.Place}
+use Rattle.std.specs.Prelude.{Option, Some, None}
 use Rattle.model.specs.Pick.{text, digits, decimal, place_text}
 
 -- The digit of n at the place whose weight is w.
@@ -18,35 +18,35 @@ fourth : (m : ℕ) (b : Bool) → ltb m 10 ≡ b → cond b ((48 + m) ∷ []) ((
 fourth m true h = let e : m % 10 ≡ m = omega (arith, ltb-true m 10 h) in rw e
 fourth m false h = refl
 
--- A number of one to three digits, and of four or more.
-module _ (n : ℕ) where
-  pub one : n < 10 → decimal n ≡ (48 + n % 10) ∷ []
+-- A number of one to three digits, and of four or more, by its last four digits.
+module _ (n : ℕ) {a b c d : ℕ} (e3 : a ≡ digit n 1000) (e2 : b ≡ digit n 100) (e1 : c ≡ digit n 10) (e0 : d ≡ 48 + n % 10) where
+  pub one : n < 10 → decimal n ≡ d ∷ []
   unfolding decimal digits
-  one a = let e : n % 10 ≡ n = omega arith in simp (lt-ltb n 10 a, e)
+  one h = let e : n % 10 ≡ n = omega arith in simp (e0, lt-ltb n 10 h, e)
 
-  pub two : 10 ≤ n → n < 100 → decimal n ≡ digit n 10 ∷ (48 + n % 10) ∷ []
+  pub two : 10 ≤ n → n < 100 → decimal n ≡ c ∷ d ∷ []
   unfolding decimal digits
-  two a b = let e : n / 10 % 10 ≡ n / 10 = omega arith in simp (le-ltb n 10 a, lt-ltb (n / 10) 10 (omega arith), e)
+  two h k = let e : n / 10 % 10 ≡ n / 10 = omega arith in simp (e1, e0, le-ltb n 10 h, lt-ltb (n / 10) 10 (omega arith), e)
 
-  pub three : 100 ≤ n → n < 1000 → decimal n ≡ digit n 100 ∷ digit n 10 ∷ (48 + n % 10) ∷ []
+  pub three : 100 ≤ n → n < 1000 → decimal n ≡ b ∷ c ∷ d ∷ []
   unfolding decimal digits
-  three a b =
-      let d : n / 10 / 10 ≡ n / 100 = omega arith in
-      let e : n / 100 % 10 ≡ n / 100 = omega arith in
-      simp (d, le-ltb n 10 (omega arith), le-ltb (n / 10) 10 (omega arith), lt-ltb (n / 100) 10 (omega arith), e)
+  three h k =
+      let e : n / 10 / 10 ≡ n / 100 = omega arith in
+      let f : n / 100 % 10 ≡ n / 100 = omega arith in
+      simp (e2, e1, e0, e, le-ltb n 10 (omega arith), le-ltb (n / 10) 10 (omega arith), lt-ltb (n / 100) 10 (omega arith), f)
 
-  pub four : 1000 ≤ n → decimal n ≡ digit n 1000 ∷ digit n 100 ∷ digit n 10 ∷ (48 + n % 10) ∷ []
+  pub four : 1000 ≤ n → decimal n ≡ a ∷ b ∷ c ∷ d ∷ []
   unfolding decimal digits
-  four a =
-      let d : n / 10 / 10 ≡ n / 100 = omega arith in
-      let e : n / 100 / 10 ≡ n / 1000 = omega arith in
-      let f = fourth (n / 1000) (ltb (n / 1000) 10) refl in
-      simp (d, e, le-ltb n 10 (omega arith), le-ltb (n / 10) 10 (omega arith), le-ltb (n / 100) 10 (omega arith), f)
+  four h =
+      let e : n / 10 / 10 ≡ n / 100 = omega arith in
+      let f : n / 100 / 10 ≡ n / 1000 = omega arith in
+      let g = fourth (n / 1000) (ltb (n / 1000) 10) refl in
+      simp (e3, e2, e1, e0, e, f, le-ltb n 10 (omega arith), le-ltb (n / 10) 10 (omega arith), le-ltb (n / 100) 10 (omega arith), g)
 
 -- A place.
-pub nowhere : {p : Place} → p ≡ Place.Nowhere → place_text p ≡ 45 ∷ []
+pub nowhere : {p : Option ℕ} → p ≡ None → place_text p ≡ 45 ∷ []
 unfolding text
 nowhere e = rw e
 
-pub placed : {p : Place} {k : ℕ} → p ≡ Place.At k → place_text p ≡ decimal k
+pub placed : {p : Option ℕ} {k : ℕ} → p ≡ Some k → place_text p ≡ decimal k
 placed e = rw e

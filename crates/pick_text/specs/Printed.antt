@@ -1,12 +1,10 @@
--- What it is that a buffer begins with a text, and that a text was put into it at a place.
-use Rattle.std.specs.Prelude.{◌≡◌, List, ◌++◌, ℕ, ◌+◌, ◌≤◌, length, take}
+-- What it is that a text was put into a buffer.
+use Rattle.std.specs.Prelude.{◌≡◌, List, ◌++◌, ℕ, ◌+◌, length, take, ◌≤◌}
+use Rattle.pick_text.specs.declared.fields.Text.{Text}
 
--- The first r bytes of the buffer are the text.
-pub record Printed (text buffer : List ℕ) (r : ℕ) : Type 0 where
-  pub fits : r ≤ length buffer
-  pub is : take r buffer ≡ text
-
--- Up to r the buffer is the one before up to `at`, and then the text, which has at most `most` bytes.
-pub record Wrote (before : List ℕ) (at : ℕ) (text : List ℕ) (most : ℕ) (buffer : List ℕ) (r : ℕ) : Type 0 where
-  pub is : take r buffer ≡ take at before ++ text
-  pub no_more : r ≤ at + most
+-- Up to its new place the buffer is the one before up to the old place, and then the text, which has at most `most` bytes.
+pub record Wrote (before : Text) (text : List ℕ) (most : ℕ) (after : Text) : Type 0 where
+  pub same_buffer : after.out.ghost_name ≡ before.out.ghost_name
+  pub is : take after.at after.out.now ≡ take before.at before.out.now ++ text
+  pub no_more : after.at ≤ before.at + most
+  pub long : length after.out.now ≡ length before.out.now

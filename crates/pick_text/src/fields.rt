@@ -1,60 +1,65 @@
-// What a line is made of, put into a buffer from a place on: a place, a number, bytes, a byte. Each returns the place after
-// it, and asks that the buffer has room.
-ghost use Rattle.std.specs.Prelude.{◌+◌, ◌≤◌, ◌<◌, [], ◌∷◌, length};
+// A text that is put into a buffer, and what its lines are made of: bytes, a byte, a number, a place.
+ghost use Rattle.std.specs.Prelude.{◌≡◌, ◌+◌, ◌%◌, ◌≤◌, ◌<◌, [], ◌∷◌, length};
 ghost use Rattle.model.specs.Pick.{decimal, place_text};
 ghost use Rattle.pick_text.specs.Printed.{Wrote};
 
-use model::Place;
+// The buffer, and the place in it from which the text goes on. Each method moves that place on, and asks that the buffer has
+// room.
+#[derive(Drop)]
+pub struct Text<'a> {
+    pub out: &'a mut [u8],
+    pub at: usize,
+}
 
-// The place or `-`.
-pub fn put_place(p: Place, out: &mut [u8], at: usize) -> usize
-    requires { at + 4 ≤ length out.old }
-    ensures { Wrote out.old at (place_text p) 4 out.new result }
-{
-    match p {
-        Place::Nowhere => put_byte(45, out, at),
-        Place::At(k) => put_number(k as u32, out, at),
+impl<'a> Text<'a> {
+    // The place or `-`.
+    pub fn put_place(&mut self, p: Option<u8>)
+        requires { self.old.at + 4 ≤ length self.old.out.now }
+        ensures { Wrote self.old (place_text p) 4 self.new }
+    {
+        match p {
+            None => self.put_byte(b'-'),
+            Some(k) => self.put_number(k as u32),
+        }
+    }
+
+    // A number in decimal: the last four digits, where it has more.
+    pub fn put_number(&mut self, n: u32)
+        requires { self.old.at + 4 ≤ length self.old.out.now }
+        ensures { Wrote self.old (decimal n) 4 self.new }
+    {
+        let digits = [digit(n / 1000), digit(n / 100), digit(n / 10), digit(n)];
+        match n {
+            0..10 => self.put(&digits[3..]),
+            10..100 => self.put(&digits[2..]),
+            100..1000 => self.put(&digits[1..]),
+            _ => self.put(&digits),
+        }
+    }
+
+    // All bytes of src.
+    pub fn put(&mut self, src: &[u8])
+        requires { self.old.at + length src.now ≤ length self.old.out.now }
+        ensures { Wrote self.old src.now (length src.now) self.new }
+    {
+        let to = self.at + src.len();
+        self.out[self.at..to].copy_from_slice(src);
+        self.at = to;
+    }
+
+    // One byte.
+    pub fn put_byte(&mut self, b: u8)
+        requires { self.old.at < length self.old.out.now }
+        ensures { Wrote self.old (b ∷ []) 1 self.new }
+    {
+        self.out[self.at] = b;
+        self.at += 1;
     }
 }
 
-// A number in decimal: the last four digits, where it has more.
-pub fn put_number(n: u32, out: &mut [u8], at: usize) -> usize
-    requires { at + 4 ≤ length out.old }
-    ensures { Wrote out.old at (decimal n) 4 out.new result }
+// The last digit of a number.
+fn digit(n: u32) -> u8
+    ensures { result ≡ 48 + n % 10 }
 {
-    let d0 = 48 + ((n % 10) as u8);
-    if n < 10 {
-        return put(&[d0], out, at);
-    }
-    let d1 = 48 + ((n / 10 % 10) as u8);
-    if n < 100 {
-        return put(&[d1, d0], out, at);
-    }
-    let d2 = 48 + ((n / 100 % 10) as u8);
-    if n < 1000 {
-        return put(&[d2, d1, d0], out, at);
-    }
-    let d3 = 48 + ((n / 1000 % 10) as u8);
-    put(&[d3, d2, d1, d0], out, at)
-}
-
-// All bytes of src.
-pub fn put(src: &[u8], out: &mut [u8], at: usize) -> usize
-    requires { at + length src.now ≤ length out.old }
-    ensures { Wrote out.old at src.now (length src.now) out.new result }
-{
-    let mut to = at;
-    for i in 0..src.len() {
-        to = put_byte(src[i], out, to);
-    }
-    to
-}
-
-// One byte.
-pub fn put_byte(b: u8, out: &mut [u8], at: usize) -> usize
-    requires { at < length out.old }
-    ensures { Wrote out.old at (b ∷ []) 1 out.new result }
-{
-    out[at] = b;
-    at + 1
+    b'0' + (n % 10) as u8
 }

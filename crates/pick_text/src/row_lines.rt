@@ -1,33 +1,34 @@
-// A line for each row, put into a buffer from a place on. Each function returns the place after its lines, and asks that the
-// buffer has room: a line has at most 15 bytes.
+// A line for each row: a line has at most 15 bytes.
 ghost use Rattle.std.specs.Prelude.{◌+◌, ◌*◌, ◌≤◌, length, get_or};
 ghost use Rattle.model.specs.Pick.{row_text, rows_text};
 ghost use Rattle.pick_text.specs.Printed.{Wrote};
 
-use crate::fields::{put, put_byte, put_number};
+use crate::fields::Text;
 
-// A line for each of the first n entries.
-pub fn put_rows(n: usize, answers: &[u16], out: &mut [u8], at: usize) -> usize
-    requires { (n ≤ 1024) × (n ≤ length answers.now) × (at + 15 * n ≤ length out.old) }
-    ensures { Wrote out.old at (rows_text n (λ i. get_or answers.now i 0)) (15 * n) out.new result }
-{
-    let mut to = at;
-    for i in 0..n {
-        to = put_row(i as u16, answers[i], out, to);
+impl<'a> Text<'a> {
+    // A line for each entry.
+    pub fn put_rows(&mut self, answers: &[u16])
+        requires rows { length answers.now ≤ 1024 }
+        requires room { self.old.at + 15 * length answers.now ≤ length self.old.out.now }
+        ensures { Wrote self.old (rows_text (length answers.now) (λ i. get_or answers.now i 0)) (15 * length answers.now) self.new }
+    {
+        for (i, e) in answers.iter().enumerate() {
+            self.put_row(i as u16, *e);
+        }
     }
-    to
-}
 
-// The line of row i, whose entry is e.
-fn put_row(i: u16, e: u16, out: &mut [u8], at: usize) -> usize
-    requires { at + 15 ≤ length out.old }
-    ensures { Wrote out.old at (row_text i e) 15 out.new result }
-{
-    let a = put_number(i as u32, out, at);
-    if e == i {
-        return put(b" keep\n", out, a);
+    // The line of row i, whose entry is e.
+    fn put_row(&mut self, i: u16, e: u16)
+        requires { self.old.at + 15 ≤ length self.old.out.now }
+        ensures { Wrote self.old (row_text i e) 15 self.new }
+    {
+        self.put_number(i as u32);
+        if e == i {
+            self.put(b" keep\n");
+            return;
+        }
+        self.put(b" drop ");
+        self.put_number(e as u32);
+        self.put_byte(b'\n');
     }
-    let b = put(b" drop ", out, a);
-    let c = put_number(e as u32, out, b);
-    put_byte(10, out, c)
 }

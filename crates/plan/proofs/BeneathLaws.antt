@@ -1,19 +1,20 @@
 -- The marks of the records beneath a term, as one loop downward sets them: a record's parts stand below it. Assumes nothing.
 use mathlib.Core.Path.{◌≡◌, refl, sym, ◌∙◌, subst}
 use mathlib.Core.Logic.{⊎_elim}
-use mathlib.Core.Bool.{Bool, true, false, cond, not, false≢true}
+use mathlib.Core.Bool.{Bool, true, false, false≢true}
 use mathlib.Core.List.{List}
 use Prim.Native.Nat.{ℕ, ◌+◌, ◌<◌, ◌≤◌}
 use native.Mathlib.Omega.{arith}
 use lib.Dec.{ltb, eqb}
 use lib.ListN.{length, get_or, set, length-set}
 use lib.Seq.{get_or-set_same, get_or-set_other}
-use borrow.Author.Tests.{eqb-true, eqb-false, ltb-true, ltb-false, not-false}
+use borrow.Author.Tests.{eqb-true, eqb-false, ltb-true, ltb-false}
 use Rattle.model.specs.declared.{Record.Record}
 use Rattle.model.specs.declared.CompoundTerm.TheVariants.{Joined, Dual}
 use Rattle.model.specs.declared.Record.TheVariants.{Base, Compound, Unknown}
 use Rattle.model.specs.Record.{record_at}
 use Rattle.laws.specs.Bools.{on-or-off, off}
+use Rattle.plan.specs.declared.vetted.exit_masks.{Exit.Exit}
 use Rattle.plan.specs.Beneath.{OfRecord, PartsLow, Telling, MarkedFrom, record_marked}
 
 -- What is weaker holds of the parts too.
@@ -83,33 +84,16 @@ added k Unknown marks l h = record { size = refl; kept = λ i g. refl; grown = �
 -- ---- from the term downward
 
 -- The records that tell are marked.
-pub marked_start : (table : List ℕ) (term : ℕ) (exits : List ℕ) (marks : List Bool) → Telling exits 128 marks
+pub marked_start : (table : List ℕ) (term : ℕ) (exits : List Exit) (marks : List Bool) → Telling exits marks
     → MarkedFrom table term (term + 1) exits marks
 marked_start table term exits marks t =
     record { room = t.room; telling = t.each; parts = λ k c m n h e. absurd (omega arith) }
 
--- One record more.
-pub telling-more : (exits : List ℕ) (k : ℕ) (marks : List Bool) → k < 128 → Telling exits k marks
-    → Telling exits (k + 1) (set marks k (not (eqb (get_or exits k 0) 0)))
-telling-more exits k marks l t =
-    record {
-      room = length-set marks k (not (eqb (get_or exits k 0) 0)) ∙ t.room;
-      each = λ h b off.
-          ⊎_elim
-          (λ e. let s : h ≡ k = eqb-true h k e in
-          eqb-true (get_or exits h 0) 0
-          (not-false (eqb (get_or exits h 0) 0)
-          (rw s (sym (get_or-set_same marks k (not (eqb (get_or exits k 0) 0)) false (rw t.room l)) ∙ rw s at off))))
-          (λ e. t.each h (omega (arith, b, eqb-false h k e))
-          (sym (get_or-set_other marks k h (not (eqb (get_or exits k 0) 0)) false (eqb-false h k e)) ∙ off))
-          (on-or-off (eqb h k));
-    }
-
 module _ (table : List ℕ) (term k : ℕ) (below : k ≤ term) (few : term < 128) (low : PartsLow table term)
-    (exits : List ℕ) (marks : List Bool) (from : MarkedFrom table term (k + 1) exits marks) where
+    (exits : List Exit) (marks : List Bool) (from : MarkedFrom table term (k + 1) exits marks) where
   -- An unmarked record leaves the marks as they are,
-  same : get_or marks k false ≡ false → MarkedFrom table term k exits marks
-  same off =
+  pub unmarked-same : get_or marks k false ≡ false → MarkedFrom table term k exits marks
+  unmarked-same off =
       record {
         room = from.room;
         telling = from.telling;
@@ -138,16 +122,9 @@ module _ (table : List ℕ) (term k : ℕ) (below : k ≤ term) (few : term < 12
       unmarked : (h : ℕ) → get_or after h false ≡ false → get_or marks h false ≡ false
       unmarked h gone = off (get_or marks h false) (λ on. false≢true (sym gone ∙ a.grown h on))
 
-  -- The loop's step.
-  pub marked_more : MarkedFrom table term k exits (cond (get_or marks k false) (record_marked (record_at table k) marks) marks)
-  marked_more = go (get_or marks k false) refl
-    where
-      parts : OfRecord (λ p. p < k) (record_at table k)
-      parts = parts-of table k (record { each = λ h c l e. low.each h c (omega arith) e }) (record_at table k) refl
-
-      go : (t : Bool) → get_or marks k false ≡ t
-          → MarkedFrom table term k exits (cond t (record_marked (record_at table k) marks) marks)
-      go true h =
-          more (record_marked (record_at table k) marks)
-          (added k (record_at table k) marks (rw from.room (omega arith)) parts)
-      go false h = same h
+  -- by their entries.
+  pub marked-more : MarkedFrom table term k exits (record_marked (record_at table k) marks)
+  marked-more =
+      more (record_marked (record_at table k) marks)
+      (added k (record_at table k) marks (rw from.room (omega arith))
+      (parts-of table k (record { each = λ h c l e. low.each h c (omega arith) e }) (record_at table k) refl))

@@ -14,12 +14,14 @@ use Rattle.model.specs.Compare.{outcome}
 use Rattle.laws.specs.Bools.{and_i, on-or-off}
 use Rattle.laws.specs.Search.{lt-suc-cases}
 use Rattle.laws.specs.Codes.{code, code_below}
+use Rattle.plan.specs.declared.vetted.exit_masks.{Exit.Exit}
+use Rattle.plan.specs.declared.vetted.exit_masks.Exit.TheVariants.{Nothing}
 use Rattle.plan.specs.Told.{told_code, bits, within, holds}
 use Rattle.plan.specs.Exits.{mask_at, tells_at, Exits}
 use Rattle.plan.specs.Known.{Known}
 use Rattle.plan.proofs.Bits.{implied, none-holds, none_within, told-low, both_hold, both-low, left-bits, right-bits, stop-bits, all-bits, bits-low}
 
-module _ {table : List ℕ} {term : ℕ} {exits : List ℕ} (e : Exits table term exits) (x y : Row) where
+module _ {table : List ℕ} {term : ℕ} {exits : List Exit} (e : Exits table term exits) (x y : Row) where
   abbrev o : ℕ
   o = code (term_at table term) x y
 
@@ -28,13 +30,13 @@ module _ {table : List ℕ} {term : ℕ} {exits : List ℕ} (e : Exits table ter
 
   tells-low : (k : ℕ) → tells_at table exits x y k < 8
   unfolding tells_at
-  tells-low k = told-low (mask_at exits k) (code (term_at table k) x y) (e.few k) (code_below (outcome (term_at table k) x y))
+  tells-low k = told-low (mask_at exits k) (code (term_at table k) x y) (code_below (outcome (term_at table k) x y))
 
   tells_is : (k : ℕ) → tells_at table exits x y k ≡ told_code (mask_at exits k) (code (term_at table k) x y)
   unfolding tells_at
   tells_is k = refl
 
-  silent : (k : ℕ) → mask_at exits k ≡ 0 → bits (tells_at table exits x y k) ≡ 0
+  silent : (k : ℕ) → mask_at exits k ≡ Nothing → bits (tells_at table exits x y k) ≡ 0
   unfolding tells_at told_code bits
   silent k z = rw z
 
@@ -43,8 +45,8 @@ module _ {table : List ℕ} {term : ℕ} {exits : List ℕ} (e : Exits table ter
   known-none = record { few = omega arith; true_of = none-holds o o-low; told = λ h l. absurd (omega (arith, l)) }
 
   module _ {k known : ℕ} (now : Known table term exits x y k known) where
-    -- A record of mask 0 adds nothing.
-    pub known-silent : mask_at exits k ≡ 0 → Known table term exits x y (k + 1) known
+    -- A record that tells nothing adds nothing.
+    pub known-silent : mask_at exits k ≡ Nothing → Known table term exits x y (k + 1) known
     known-silent z =
         record {
           few = now.few;
@@ -86,9 +88,9 @@ module _ {table : List ℕ} {term : ℕ} {exits : List ℕ} (e : Exits table ter
         (implied (holds known o && within o (bits known)) (eqb (bits known) o) (all-bits known o now.few o-low)
         (and_i now.true_of (e.whole x y (bits known) (bits-low known) (λ h b. now.told h (omega (arith, b, l))))))
 
-  -- Records of mask 0 add nothing, however many.
+  -- Records that tell nothing add nothing, however many.
   pub known_on : {k next known : ℕ} → Known table term exits x y (k + 1) known
-      → ((h : ℕ) → k < h → h < next → mask_at exits h ≡ 0) → Known table term exits x y next known
+      → ((h : ℕ) → k < h → h < next → mask_at exits h ≡ Nothing) → Known table term exits x y next known
   known_on {k} {next} {known} now quiet =
       record {
         few = now.few;

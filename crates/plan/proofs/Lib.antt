@@ -3,4 +3,3 @@ pub mod Masks
 pub mod Parts
 pub mod Known
 pub mod BeneathLaws
-pub mod Put

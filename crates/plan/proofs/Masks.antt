@@ -15,12 +15,14 @@ use Rattle.model.specs.Better.{Row}
 use Rattle.model.specs.Compare.{outcome}
 use Rattle.laws.specs.Bools.{on-or-off, and_l, and_r}
 use Rattle.laws.specs.Codes.{code, code_below}
+use Rattle.plan.specs.declared.vetted.exit_masks.{Exit.Exit}
+use Rattle.plan.specs.declared.vetted.exit_masks.Exit.TheVariants.{Nothing, Bits, All}
 use Rattle.plan.specs.Told.{told_code, bits, within, holds}
 use Rattle.plan.specs.Exits.{mask_at, tells_at, Exits}
 use Rattle.plan.proofs.Bits.{none-holds, none_within, own-holds, own_bits}
 
--- Mask 0 tells nothing.
-told_none : (c : ℕ) → told_code 0 c ≡ 0
+-- The mask Nothing tells nothing.
+told_none : (c : ℕ) → told_code Nothing c ≡ 0
 unfolding told_code
 told_none c = refl
 
@@ -30,17 +32,17 @@ no_bits w l = none_within w l
 
 -- ---- one mask set
 
-module _ (exits : List ℕ) (room : length exits ≡ 128) (p v : ℕ) (l : p < 128) where
+module _ (exits : List Exit) (room : length exits ≡ 128) (p : ℕ) (v : Exit) (l : p < 128) where
   pub mask-here : (k : ℕ) → eqb k p ≡ true → mask_at (set exits p v) k ≡ v
   unfolding mask_at
-  mask-here k t = rw (eqb-true k p t) (get_or-set_same exits p v 0 (omega (arith, room)))
+  mask-here k t = rw (eqb-true k p t) (get_or-set_same exits p v Nothing (omega (arith, room)))
 
   pub mask-other : (k : ℕ) → eqb k p ≡ false → mask_at (set exits p v) k ≡ mask_at exits k
   unfolding mask_at
-  mask-other k t = get_or-set_other exits p k v 0 (eqb-false k p t)
+  mask-other k t = get_or-set_other exits p k v Nothing (eqb-false k p t)
 
-module _ (table : List ℕ) (term : ℕ) (exits : List ℕ) (e : Exits table term exits) where
-  module _ (p v : ℕ) (l : p < 128) where
+module _ (table : List ℕ) (term : ℕ) (exits : List Exit) (e : Exits table term exits) where
+  module _ (p : ℕ) (v : Exit) (l : p < 128) where
     here : (k : ℕ) → eqb k p ≡ true → mask_at (set exits p v) k ≡ v
     here = mask-here exits e.room p v l
 
@@ -58,21 +60,17 @@ module _ (table : List ℕ) (term : ℕ) (exits : List ℕ) (e : Exits table ter
     unfolding tells_at
     tells-here x y k t = rw (here k t, eqb-true k p t)
 
-    tells-by : (x y : Row) (m : ℕ) → mask_at exits p ≡ m → tells_at table exits x y p ≡ told_code m (code (term_at table p) x y)
+    tells-by : (x y : Row) (m : Exit) → mask_at exits p ≡ m → tells_at table exits x y p ≡ told_code m (code (term_at table p) x y)
     unfolding tells_at
     tells-by x y m is = rw is
 
-    few-set : v < 8 → (k : ℕ) → mask_at (set exits p v) k < 8
-    few-set low k = ⊎_elim (λ t. rw (here k t) low) (λ t. rw (other k t) (e.few k)) (on-or-off (eqb k p))
-
     -- Record p tells what is true, and no less than before.
-    pub mask-entered : is_term (record_at table p) ≡ true → v < 8
+    pub mask-entered : is_term (record_at table p) ≡ true
         → ((x y : Row) → holds (told_code v (code (term_at table p) x y)) (code (term_at table term) x y) ≡ true)
-        → ((mask_at exits p ≡ 0) ⊎ (mask_at exits p ≡ v)) → Exits table term (set exits p v)
-    mask-entered is low true-told before =
+        → ((mask_at exits p ≡ Nothing) ⊎ (mask_at exits p ≡ v)) → Exits table term (set exits p v)
+    mask-entered is true-told before =
         record {
           room = simp length-set e.room;
-          few = few-set low;
           terms = λ k n. ⊎_elim
               (λ t. absurd (false≢true (sym n ∙ rw (eqb-true k p t) is)))
               (λ t. other k t ∙ e.terms k n)
@@ -89,19 +87,18 @@ module _ (table : List ℕ) (term : ℕ) (exits : List ℕ) (e : Exits table ter
             → within (bits (tells_at table (set exits p v) x y k)) w ≡ true → within (bits (tells_at table exits x y k)) w ≡ true
         no_less x y w b k t new =
             ⊎_elim
-            (λ z. rw (eqb-true k p t, tells-by x y 0 z, told_none (code (term_at table p) x y)) (no_bits w b))
+            (λ z. rw (eqb-true k p t, tells-by x y Nothing z, told_none (code (term_at table p) x y)) (no_bits w b))
             (λ s. rw (eqb-true k p t, tells-by x y v s) (rw (tells-here x y k t) at new))
             before
 
     -- Record p tells nothing any more, where two others tell all that it told.
-    pub mask-cleared : (a b : ℕ) → eqb a p ≡ false → eqb b p ≡ false → a ≤ term → b ≤ term → v ≡ 0
+    pub mask-cleared : (a b : ℕ) → eqb a p ≡ false → eqb b p ≡ false → a ≤ term → b ≤ term → v ≡ Nothing
         → ((x y : Row) (w : ℕ) → w < 4 → within (bits (tells_at table exits x y a)) w ≡ true
         → within (bits (tells_at table exits x y b)) w ≡ true → within (bits (tells_at table exits x y p)) w ≡ true)
         → Exits table term (set exits p v)
     mask-cleared a b na nb la lb none told-by =
         record {
           room = simp length-set e.room;
-          few = few-set (rw none (omega arith));
           terms = λ k n. ⊎_elim (λ t. here k t ∙ none) (λ t. other k t ∙ e.terms k n) (on-or-off (eqb k p));
           each = λ k x y. ⊎_elim
               (λ t. rw (tells-here x y k t, none, told_none (code (term_at table p) x y))
@@ -116,28 +113,27 @@ module _ (table : List ℕ) (term : ℕ) (exits : List ℕ) (e : Exits table ter
 
 -- ---- the asked term's own mask
 
-zero-at : (n k : ℕ) → ◌≡◌ {A = ℕ} (get_or (replicate n 0) k 0) 0
+zero-at : (n k : ℕ) → get_or (replicate n Nothing) k Nothing ≡ Nothing
 zero-at zero k = refl
 zero-at (suc n) zero = refl
 zero-at (suc n) (suc k) = zero-at n k
 
-module _ (table : List ℕ) (term : ℕ) (l : term < 128) (is : is_term (record_at table term) ≡ true) (none : List ℕ)
-    (blank : none ≡ replicate 128 0) where
+module _ (table : List ℕ) (term : ℕ) (l : term < 128) (is : is_term (record_at table term) ≡ true) (none : List Exit)
+    (blank : none ≡ replicate 128 Nothing) where
   none-room : length none ≡ 128
-  none-room = rw blank (length-replicate {A = ℕ} 128 0)
+  none-room = rw blank (length-replicate {A = Exit} 128 Nothing)
 
-  none-mask : (k : ℕ) → mask_at none k ≡ 0
+  none-mask : (k : ℕ) → mask_at none k ≡ Nothing
   unfolding mask_at
   none-mask k = rw blank (zero-at 128 k)
 
   -- At first it alone tells, and it tells all.
-  start-with : (m : ℕ) → m < 8
+  start-with : (m : Exit)
       → ((c : ℕ) → c < 4 → (holds (told_code m c) c ≡ true) × (bits (told_code m c) ≡ c)) → Exits table term (set none term m)
   unfolding tells_at
-  start-with m low own =
+  start-with m own =
       record {
         room = simp length-set none-room;
-        few = λ k. ⊎_elim (λ t. rw (here k t) low) (λ t. rw (other k t) (omega arith)) (on-or-off (eqb k term));
         terms = λ k n. ⊎_elim
             (λ t. absurd (false≢true (sym n ∙ rw (eqb-true k term t) is))) (λ t. other k t) (on-or-off (eqb k term));
         each = λ k x y. ⊎_elim
@@ -153,13 +149,13 @@ module _ (table : List ℕ) (term : ℕ) (l : term < 128) (is : is_term (record_
       here : (k : ℕ) → eqb k term ≡ true → mask_at (set none term m) k ≡ m
       here = mask-here none none-room term m l
 
-      other : (k : ℕ) → eqb k term ≡ false → mask_at (set none term m) k ≡ 0
+      other : (k : ℕ) → eqb k term ≡ false → mask_at (set none term m) k ≡ Nothing
       other k t = mask-other none none-room term m l k t ∙ none-mask k
 
-  pub start-1 : Exits table term (set none term 1)
-  start-1 = start-with 1 (omega arith)
-      (λ c b. (and_l (holds (told_code 1 c) c) (holds (told_code 5 c) c) (own-holds c b), eqb-true _ _ (and_l (eqb (bits (told_code 1 c)) c) (eqb (bits (told_code 5 c)) c) (own_bits c b))))
+  pub start-bits : Exits table term (set none term Bits)
+  start-bits = start-with Bits
+      (λ c b. (and_l (holds (told_code Bits c) c) (holds (told_code All c) c) (own-holds c b), eqb-true _ _ (and_l (eqb (bits (told_code Bits c)) c) (eqb (bits (told_code All c)) c) (own_bits c b))))
 
-  pub start-5 : Exits table term (set none term 5)
-  start-5 = start-with 5 (omega arith)
-      (λ c b. (and_r (holds (told_code 1 c) c) (holds (told_code 5 c) c) (own-holds c b), eqb-true _ _ (and_r (eqb (bits (told_code 1 c)) c) (eqb (bits (told_code 5 c)) c) (own_bits c b))))
+  pub start-all : Exits table term (set none term All)
+  start-all = start-with All
+      (λ c b. (and_r (holds (told_code Bits c) c) (holds (told_code All c) c) (own-holds c b), eqb-true _ _ (and_r (eqb (bits (told_code Bits c)) c) (eqb (bits (told_code All c)) c) (own_bits c b))))

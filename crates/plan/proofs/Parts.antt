@@ -7,10 +7,9 @@ use mathlib.Core.List.{List}
 use Prim.Native.Nat.{ℕ, ◌<◌, ◌≤◌}
 use native.Mathlib.Omega.{arith}
 use lib.Bits.{bit_or}
-use lib.Dec.{eqb, ltb}
-use lib.IntN.{ℤ}
+use lib.Dec.{eqb}
 use lib.ListN.{get_or, set, replicate}
-use borrow.Author.Tests.{eqb-true, eq-eqb, ne_eqb, ltb-true}
+use borrow.Author.Tests.{eqb-true, eq-eqb, ne_eqb}
 use Rattle.model.specs.declared.{Pair.Pair, Record.Record}
 use Rattle.model.specs.declared.CompoundTerm.TheVariants.{Joined, Dual}
 use Rattle.model.specs.declared.Pair.TheVariants.{Pareto, Prior, Both}
@@ -19,43 +18,45 @@ use Rattle.model.specs.Record.{record_count, record_at, is_term}
 use Rattle.model.specs.Term.{term_at}
 use Rattle.model.specs.Better.{Row}
 use Rattle.model.specs.Compare.{outcome}
-use Rattle.laws.specs.Bools.{on-or-off, and_l, and_r, and_i, or_cases}
+use Rattle.laws.specs.Bools.{on-or-off, and_l, and_r, and_i}
 use Rattle.laws.specs.Codes.{code, code_below, joined_code, prior_code, turned_code}
 use Rattle.laws.proofs.Codes.{pair_code, dual-code}
 use Rattle.laws.specs.Accepted.{Accepted}
 use Rattle.laws.specs.AcceptedTable.{accepted-table}
 use Rattle.laws.specs.AcceptedKinds.{accepted-joined, accepted-dual}
 use Rattle.laws.proofs.AcceptedTerms.{accepted-sound}
-use Rattle.plan.specs.Told.{told_code, bits, within, holds, turned_mask, part_mask, own_mask}
+use Rattle.plan.specs.declared.vetted.exit_masks.{Exit.Exit}
+use Rattle.plan.specs.declared.vetted.exit_masks.Exit.TheVariants.{Nothing}
+use Rattle.plan.specs.Told.{is_nothing, told_code, bits, within, holds, turned_mask, part_mask, own_mask}
 use Rattle.plan.specs.Exits.{mask_at, tells_at, Exits, Exitable, PartsWithin, start_mask, pushed, left_pushed, dual_pushed, joined_pushed, record_pushed}
-use Rattle.plan.proofs.Bits.{implied, dual-tells, left-holds, part-holds, parts_within, own-cases, masks-low}
-use Rattle.plan.proofs.Masks.{mask-here, mask-other, mask-entered, mask-cleared, start-1, start-5}
+use Rattle.plan.proofs.Bits.{implied, dual-tells, left-holds, part-holds, parts_within, own-cases, nothing-is}
+use Rattle.plan.proofs.Masks.{mask-here, mask-other, mask-entered, mask-cleared, start-bits, start-all}
 
 -- The asked term is a record of the table, which has at most 128.
-pub term-low : {table : List ℕ} {numbers : List ℤ} {term : ℕ} → Exitable table numbers term
+pub term-low : {table : List ℕ} {term : ℕ} → Exitable table term
     → (term < record_count table) × (record_count table ≤ 128)
 term-low {table} e = (e.taken.below, (accepted-table table e.columns e.taken.is_accepted).few_records)
 
 -- At first the asked term alone tells.
-pub exits-start : (table : List ℕ) (term : ℕ) → term < 128 → is_term (record_at table term) ≡ true → (none : List ℕ)
-    → none ≡ replicate 128 0 → (r : Record) → Exits table term (set none term (start_mask r))
-exits-start table term l is none blank (Record.Value a) = start-5 table term l is none blank
-exits-start table term l is none blank (Base column b) = start-5 table term l is none blank
-exits-start table term l is none blank (Compound (Joined Pareto p q)) = start-1 table term l is none blank
-exits-start table term l is none blank (Compound (Joined Prior p q)) = start-5 table term l is none blank
-exits-start table term l is none blank (Compound (Joined Both p q)) = start-1 table term l is none blank
-exits-start table term l is none blank (Compound (Dual p)) = start-5 table term l is none blank
-exits-start table term l is none blank Unknown = start-5 table term l is none blank
+pub exits-start : (table : List ℕ) (term : ℕ) → term < 128 → is_term (record_at table term) ≡ true → (none : List Exit)
+    → none ≡ replicate 128 Nothing → (r : Record) → Exits table term (set none term (start_mask r))
+exits-start table term l is none blank (Record.Value a) = start-all table term l is none blank
+exits-start table term l is none blank (Base column b) = start-all table term l is none blank
+exits-start table term l is none blank (Compound (Joined Pareto p q)) = start-bits table term l is none blank
+exits-start table term l is none blank (Compound (Joined Prior p q)) = start-all table term l is none blank
+exits-start table term l is none blank (Compound (Joined Both p q)) = start-bits table term l is none blank
+exits-start table term l is none blank (Compound (Dual p)) = start-all table term l is none blank
+exits-start table term l is none blank Unknown = start-all table term l is none blank
 
 below-not : (a k : ℕ) → a < k → eqb a k ≡ false
 below-not a k l = ne_eqb a k (λ q. omega (arith, l, q))
 
 module _ (table : List ℕ) (columns : ℕ) (ok : Accepted table columns) (term : ℕ) (k : ℕ) (below : k < record_count table)
-    (most : k ≤ term) (exits : List ℕ) (e : Exits table term exits) where
+    (most : k ≤ term) (exits : List Exit) (e : Exits table term exits) where
   few : k < 128
   few = omega (arith, below, (accepted-table table columns ok).few_records)
 
-  abbrev m : ℕ
+  abbrev m : Exit
   m = mask_at exits k
 
   asked-below : (x y : Row) → code (term_at table term) x y < 4
@@ -71,11 +72,8 @@ module _ (table : List ℕ) (columns : ℕ) (ok : Accepted table columns) (term 
   module _ (p q : ℕ) (pl : p < k) (ql : q < k) (pt : is_term (record_at table p) ≡ true) (qt : is_term (record_at table q) ≡ true)
       (kt : is_term (record_at table k) ≡ true)
       (is : (x y : Row) → code (term_at table k) x y ≡ bit_or (code (term_at table p) x y) (code (term_at table q) x y)) where
-    abbrev v : ℕ
+    abbrev v : Exit
     v = part_mask m
-
-    low : v < 8
-    low = ltb-true v 8 (and_r (ltb (turned_mask m) 8) (ltb (part_mask m) 8) (masks-low m (e.few k)))
 
     part-true : Row → Row → ℕ → Bool
     part-true x y h = holds (told_code v (code (term_at table h) x y)) (code (term_at table term) x y)
@@ -85,7 +83,7 @@ module _ (table : List ℕ) (columns : ℕ) (ok : Accepted table columns) (term 
     both_true x y =
         implied (holds (told_code m (bit_or (code (term_at table p) x y) (code (term_at table q) x y))) (code (term_at table term) x y))
         (part-true x y p && part-true x y q)
-        (part-holds m (code (term_at table p) x y) (code (term_at table q) x y) (code (term_at table term) x y) (e.few k)
+        (part-holds m (code (term_at table p) x y) (code (term_at table q) x y) (code (term_at table term) x y)
         (code_below (outcome (term_at table p) x y)) (code_below (outcome (term_at table q) x y)) (asked-below x y))
         (rw (is x y) at (own-true x y))
 
@@ -97,15 +95,15 @@ module _ (table : List ℕ) (columns : ℕ) (ok : Accepted table columns) (term 
     unfolding part-true
     right-true x y = and_r (part-true x y p) (part-true x y q) (both_true x y)
 
-    module _ (zp : mask_at exits p ≡ 0) (zq : mask_at exits q ≡ 0) where
-      abbrev first : List ℕ
+    module _ (zp : mask_at exits p ≡ Nothing) (zq : mask_at exits q ≡ Nothing) where
+      abbrev first : List Exit
       first = set exits p v
 
       first_exits : Exits table term first
       first_exits =
-          mask-entered table term exits e p v (omega (arith, pl, few)) pt low left-true (inl zp)
+          mask-entered table term exits e p v (omega (arith, pl, few)) pt left-true (inl zp)
 
-      abbrev second : List ℕ
+      abbrev second : List Exit
       second = set first q v
 
       first-p : (h : ℕ) → eqb h p ≡ true → mask_at first h ≡ v
@@ -122,7 +120,7 @@ module _ (table : List ℕ) (columns : ℕ) (ok : Accepted table columns) (term 
 
       second_exits : Exits table term second
       second_exits =
-          mask-entered table term first first_exits q v (omega (arith, ql, few)) qt low right-true
+          mask-entered table term first first_exits q v (omega (arith, ql, few)) qt right-true
           (⊎_elim (λ t. inr (first-p q t)) (λ t. inl (first-other q t ∙ zq)) (on-or-off (eqb q p)))
 
       at_p : mask_at second p ≡ v
@@ -142,7 +140,7 @@ module _ (table : List ℕ) (columns : ℕ) (ok : Accepted table columns) (term 
           (implied
           (within (bits (told_code v (code (term_at table p) x y))) w && within (bits (told_code v (code (term_at table q) x y))) w)
           (within (bits (told_code m (bit_or (code (term_at table p) x y) (code (term_at table q) x y)))) w)
-          (parts_within m (code (term_at table p) x y) (code (term_at table q) x y) w (e.few k)
+          (parts_within m (code (term_at table p) x y) (code (term_at table q) x y) w
           (code_below (outcome (term_at table p) x y)) (code_below (outcome (term_at table q) x y)) b)
           (and_i (rw at_p at a) (rw at-q at c)))
 
@@ -150,56 +148,55 @@ module _ (table : List ℕ) (columns : ℕ) (ok : Accepted table columns) (term 
       third-exits =
           ⊎_elim
           (λ t. mask-cleared table term second second_exits k (own_mask m) few p q (below-not p k pl) (below-not q k ql)
-          (omega (arith, pl, most)) (omega (arith, ql, most)) (eqb-true _ _ t) told-by)
-          (λ t. let kept = eqb-true (own_mask m) m t in rw kept (mask-entered table term second second_exits k m few kt (e.few k) own-true (inr at-k)))
-          (or_cases (eqb (own_mask m) 0) (eqb (own_mask m) m) (own-cases m (e.few k)))
+          (omega (arith, pl, most)) (omega (arith, ql, most)) t told-by)
+          (λ t. rw t (mask-entered table term second second_exits k m few kt own-true (inr at-k)))
+          (own-cases m)
 
-    pub pushed-exits : Exits table term (pushed p q k (get_or exits k 0) exits)
+    pub pushed-exits : Exits table term (pushed p q k (get_or exits k Nothing) exits)
     unfolding pushed mask_at
     pushed-exits =
         ⊎_elim
-        (λ t. rw t (third-exits (eqb-true _ _ (and_l (eqb (get_or exits p 0) 0) (eqb (get_or exits q 0) 0) t)) (eqb-true _ _ (and_r (eqb (get_or exits p 0) 0) (eqb (get_or exits q 0) 0) t))))
+        (λ t. rw t (third-exits (nothing-is _ (and_l (is_nothing (get_or exits p Nothing)) (is_nothing (get_or exits q Nothing)) t)) (nothing-is _ (and_r (is_nothing (get_or exits p Nothing)) (is_nothing (get_or exits q Nothing)) t))))
         (λ t. rw t e)
-        (on-or-off (eqb (get_or exits p 0) 0 && eqb (get_or exits q 0) 0))
+        (on-or-off (is_nothing (get_or exits p Nothing) && is_nothing (get_or exits q Nothing)))
 
   -- ---- PRIOR
 
   pub left-exits : (p q : ℕ) → p < k → is_term (record_at table p) ≡ true
       → ((x y : Row) → code (term_at table k) x y ≡ prior_code (code (term_at table p) x y) (code (term_at table q) x y))
-      → Exits table term (left_pushed p (get_or exits k 0) exits)
+      → Exits table term (left_pushed p (get_or exits k Nothing) exits)
   unfolding left_pushed mask_at
   left-exits p q pl pt is =
       ⊎_elim
       (λ t. rw t
-      (mask-entered table term exits e p m (omega (arith, pl, few)) pt (e.few k)
+      (mask-entered table term exits e p m (omega (arith, pl, few)) pt
       (λ x y. implied (holds (told_code m (prior_code (code (term_at table p) x y) (code (term_at table q) x y))) (code (term_at table term) x y))
       (holds (told_code m (code (term_at table p) x y)) (code (term_at table term) x y))
-      (left-holds m (code (term_at table p) x y) (code (term_at table q) x y) (code (term_at table term) x y) (e.few k)
+      (left-holds m (code (term_at table p) x y) (code (term_at table q) x y) (code (term_at table term) x y)
       (code_below (outcome (term_at table p) x y)) (code_below (outcome (term_at table q) x y)) (asked-below x y))
       (rw (is x y) at (own-true x y)))
-      (inl (eqb-true _ _ t))))
+      (inl (nothing-is _ t))))
       (λ t. rw t e)
-      (on-or-off (eqb (get_or exits p 0) 0))
+      (on-or-off (is_nothing (get_or exits p Nothing)))
 
   -- ---- DUAL
 
   module _ (p : ℕ) (pl : p < k) (pt : is_term (record_at table p) ≡ true)
       (is : (x y : Row) → code (term_at table k) x y ≡ turned_code (code (term_at table p) x y)) where
-    abbrev u : ℕ
+    abbrev u : Exit
     u = turned_mask m
 
     turned-is : (x y : Row) → told_code u (code (term_at table p) x y) ≡ told_code m (code (term_at table k) x y)
     turned-is x y =
-        rw (is x y) (eqb-true _ _ (dual-tells m (code (term_at table p) x y) (e.few k) (code_below (outcome (term_at table p) x y))))
+        rw (is x y) (eqb-true _ _ (dual-tells m (code (term_at table p) x y) (code_below (outcome (term_at table p) x y))))
 
-    module _ (zp : mask_at exits p ≡ 0) where
-      abbrev turned : List ℕ
+    module _ (zp : mask_at exits p ≡ Nothing) where
+      abbrev turned : List Exit
       turned = set exits p u
 
       turned-exits : Exits table term turned
       turned-exits =
           mask-entered table term exits e p u (omega (arith, pl, few)) pt
-          (ltb-true u 8 (and_l (ltb (turned_mask m) 8) (ltb (part_mask m) 8) (masks-low m (e.few k))))
           (λ x y. rw (turned-is x y) (own-true x y)) (inl zp)
 
       part-tells : (x y : Row) (w : ℕ) → w < 4 → within (bits (tells_at table turned x y p)) w ≡ true
@@ -210,15 +207,15 @@ module _ (table : List ℕ) (columns : ℕ) (ok : Accepted table columns) (term 
           let at-k = mask-other exits e.room p u (omega (arith, pl, few)) k (ne_eqb k p (λ h. omega (arith, pl, h))) in
           rw (at-k, ← (turned-is x y)) (rw at_p at a)
 
-      cleared-exits : Exits table term (set turned k 0)
+      cleared-exits : Exits table term (set turned k Nothing)
       cleared-exits =
-          mask-cleared table term turned turned-exits k 0 few p p (below-not p k pl) (below-not p k pl)
+          mask-cleared table term turned turned-exits k Nothing few p p (below-not p k pl) (below-not p k pl)
           (omega (arith, pl, most)) (omega (arith, pl, most)) refl part-tells
 
-    pub dual-exits : Exits table term (dual_pushed p k (get_or exits k 0) exits)
+    pub dual-exits : Exits table term (dual_pushed p k (get_or exits k Nothing) exits)
     unfolding dual_pushed mask_at
     dual-exits =
-        ⊎_elim (λ t. rw t (cleared-exits (eqb-true _ _ t))) (λ t. rw t e) (on-or-off (eqb (get_or exits p 0) 0))
+        ⊎_elim (λ t. rw t (cleared-exits (nothing-is _ t))) (λ t. rw t e) (on-or-off (is_nothing (get_or exits p Nothing)))
 
   -- ---- any record
 
@@ -236,7 +233,7 @@ module _ (table : List ℕ) (columns : ℕ) (ok : Accepted table columns) (term 
         (omega (arith, few, a.left), omega (arith, few, a.right))
 
   joined-exits : (op : Pair) (p q : ℕ) → record_at table k ≡ Compound (Joined op p q)
-      → Exits table term (joined_pushed op p q k (get_or exits k 0) exits)
+      → Exits table term (joined_pushed op p q k (get_or exits k Nothing) exits)
   unfolding joined_code
   joined-exits Pareto p q is =
       let a = accepted-joined table columns ok k below Pareto p q is in

@@ -5,6 +5,8 @@ use Rattle.model.specs.declared.{CompoundTerm.CompoundTerm, Record.Record}
 use Rattle.model.specs.declared.CompoundTerm.TheVariants.{Joined, Dual}
 use Rattle.model.specs.declared.Record.TheVariants.{Base, Compound, Unknown}
 use Rattle.model.specs.Record.{record_count, record_at}
+use Rattle.plan.specs.declared.vetted.exit_masks.{Exit.Exit}
+use Rattle.plan.specs.declared.vetted.exit_masks.Exit.TheVariants.{Nothing}
 use Rattle.laws.specs.Accepted.{Accepted}
 use Rattle.laws.specs.AcceptedKinds.{accepted-joined, accepted-dual}
 
@@ -24,16 +26,16 @@ OfRecord P Unknown = Unit {0}
 pub record PartsLow (table : List ℕ) (term : ℕ) : Type 0 where
   pub each : (k : ℕ) (c : CompoundTerm) → k ≤ term → record_at table k ≡ Compound c → OfParts (λ p. p < k) c
 
--- Each record below m that tells of the asked term, by its mask (`exits`), is marked.
-pub record Telling (exits : List ℕ) (m : ℕ) (marks : List Bool) : Type 0 where
+-- Each record that tells of the asked term, by its mask (`exits`), is marked.
+pub record Telling (exits : List Exit) (marks : List Bool) : Type 0 where
   pub room : length marks ≡ 128
-  pub each : (k : ℕ) → k < m → get_or marks k false ≡ false → get_or exits k 0 ≡ 0
+  pub each : (k : ℕ) → k < 128 → get_or marks k false ≡ false → get_or exits k Nothing ≡ Nothing
 
 -- Each record that tells of the asked term, by its mask (`exits`), is marked, and so are the parts of each marked compound
 -- from record m up to the term.
-pub record MarkedFrom (table : List ℕ) (term m : ℕ) (exits : List ℕ) (marks : List Bool) : Type 0 where
+pub record MarkedFrom (table : List ℕ) (term m : ℕ) (exits : List Exit) (marks : List Bool) : Type 0 where
   pub room : length marks ≡ 128
-  pub telling : (k : ℕ) → k < 128 → get_or marks k false ≡ false → get_or exits k 0 ≡ 0
+  pub telling : (k : ℕ) → k < 128 → get_or marks k false ≡ false → get_or exits k Nothing ≡ Nothing
   pub parts : (k : ℕ) (c : CompoundTerm) → m ≤ k → k ≤ term → get_or marks k false ≡ true → record_at table k ≡ Compound c
       → OfParts (λ p. get_or marks p false ≡ true) c
 
@@ -50,7 +52,7 @@ record_marked (Compound c) marks = parts_marked c marks
 record_marked Unknown marks = marks
 
 -- All records whose codes are needed are marked.
-abbrev pub Marked : List ℕ → ℕ → List ℕ → List Bool → Type 0
+abbrev pub Marked : List ℕ → ℕ → List Exit → List Bool → Type 0
 Marked table term exits marks = MarkedFrom table term 0 exits marks
 
 -- An accepted table's parts stand below their compounds.

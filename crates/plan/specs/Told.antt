@@ -1,10 +1,19 @@
 -- What the outcome of a record beneath the asked term tells of the asked term's (SPECIFICATION, "When a row is better"; codes
--- as in laws/specs/Codes.antt). Each record has a mask: 0 tells nothing; 1: the asked term's code has the bits of the
--- record's; 2: it has them with first and second better exchanged; 5 and 6: the same, and where the record's is not same, no
--- others.
-use Rattle.std.specs.Prelude.{Bool, cond, ◌&&◌, ◌||◌, ℕ, ◌+◌, ◌%◌, eqb, ltb}
+-- as in laws/specs/Codes.antt). Each record has a mask: Bits: the asked term's code has the bits of the record's; TurnedBits:
+-- it has them with first and second better exchanged; All and TurnedAll: the same, and where the record's is not same, no others.
+use Rattle.std.specs.Prelude.{Bool, true, false, cond, ◌&&◌, ◌||◌, ℕ, ◌+◌, ◌%◌, eqb, ltb}
 use Rattle.std.specs.Int.Bits.{bit_or}
 use Rattle.laws.specs.Codes.{turned_code}
+use Rattle.plan.specs.declared.vetted.exit_masks.{Exit.Exit}
+use Rattle.plan.specs.declared.vetted.exit_masks.Exit.TheVariants.{Nothing, Bits, TurnedBits, All, TurnedAll}
+
+-- The mask that tells nothing.
+abbrev pub is_nothing : Exit → Bool
+is_nothing Nothing = true
+is_nothing Bits = false
+is_nothing TurnedBits = false
+is_nothing All = false
+is_nothing TurnedAll = false
 
 -- ---- what a mask makes of a code
 
@@ -12,10 +21,13 @@ use Rattle.laws.specs.Codes.{turned_code}
 unfoldable pub wholly_code : ℕ → ℕ
 wholly_code c = cond (eqb c 0) 0 (c + 4)
 
--- What a record of mask m and code c tells.
-unfoldable pub told_code : ℕ → ℕ → ℕ
-told_code m c =
-    cond (eqb m 1) c (cond (eqb m 2) (turned_code c) (cond (eqb m 5) (wholly_code c) (cond (eqb m 6) (wholly_code (turned_code c)) 0)))
+-- What a record of this mask and code c tells.
+unfoldable pub told_code : Exit → ℕ → ℕ
+told_code Nothing c = 0
+told_code Bits c = c
+told_code TurnedBits c = turned_code c
+told_code All c = wholly_code c
+told_code TurnedAll c = wholly_code (turned_code c)
 
 -- The bits of the code among it.
 unfoldable pub bits : ℕ → ℕ
@@ -32,13 +44,25 @@ holds v o = (ltb v 4 && within v o) || eqb v (o + 4)
 -- ---- from a compound's mask to its parts'
 
 -- Of the part of a DUAL.
-unfoldable pub turned_mask : ℕ → ℕ
-turned_mask m = cond (eqb m 1) 2 (cond (eqb m 2) 1 (cond (eqb m 5) 6 (cond (eqb m 6) 5 0)))
+abbrev pub turned_mask : Exit → Exit
+turned_mask Nothing = Nothing
+turned_mask Bits = TurnedBits
+turned_mask TurnedBits = Bits
+turned_mask All = TurnedAll
+turned_mask TurnedAll = All
 
 -- Of a part of a PARETO or BOTH.
-unfoldable pub part_mask : ℕ → ℕ
-part_mask m = cond (eqb m 5) 1 (cond (eqb m 6) 2 m)
+abbrev pub part_mask : Exit → Exit
+part_mask Nothing = Nothing
+part_mask Bits = Bits
+part_mask TurnedBits = TurnedBits
+part_mask All = Bits
+part_mask TurnedAll = TurnedBits
 
 -- What is left to the PARETO or BOTH itself, whose parts tell its bits.
-unfoldable pub own_mask : ℕ → ℕ
-own_mask m = cond (ltb m 4) 0 m
+abbrev pub own_mask : Exit → Exit
+own_mask Nothing = Nothing
+own_mask Bits = Nothing
+own_mask TurnedBits = Nothing
+own_mask All = All
+own_mask TurnedAll = TurnedAll

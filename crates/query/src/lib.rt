@@ -4,7 +4,11 @@
 ghost use Rattle.std.specs.Prelude.{◌≡◌};
 ghost use Rattle.model.specs.Query.{query_reply, query_buffer};
 
-use model::{QueryReply, Verdict};
+use direct::vetted::Direct;
+use model::QueryReply;
+use parts::vetted::Parts;
+use selection::vetted::engine::Engine;
+use selection::vetted::rooms;
 use table::vetted::asked::query::query_verdict;
 
 // Query, rows compared pair by pair. Entry i becomes i if row i is kept, else the lowest kept row of its group that is better;
@@ -19,16 +23,10 @@ pub fn query_direct(
     group: u8,
     answers: &mut [u16],
 ) -> QueryReply
-    ensures { (result ≡ query_reply table.now columns rows.now term group answers.old)
-        × (answers.new ≡ query_buffer table.now columns rows.now term group answers.old) }
+    ensures reply { result ≡ query_reply table.now columns rows.now term group answers.old }
+    ensures buffer { answers.new ≡ query_buffer table.now columns rows.now term group answers.old }
 {
-    let verdict = query_verdict(table, columns, rows, term, group, answers);
-    match verdict {
-        Verdict::Refused(why) => QueryReply::Refused(why),
-        Verdict::Passed => QueryReply::Kept(direct::vetted::selected(
-            table, columns, rows, term as u8, group, answers,
-        )),
-    }
+    answered::<Direct>(table, columns, rows, term, group, answers)
 }
 
 // Query, from the answers of the smaller wishes: the same contract.
@@ -40,14 +38,25 @@ pub fn query_by_parts(
     group: u8,
     answers: &mut [u16],
 ) -> QueryReply
-    ensures { (result ≡ query_reply table.now columns rows.now term group answers.old)
-        × (answers.new ≡ query_buffer table.now columns rows.now term group answers.old) }
+    ensures reply { result ≡ query_reply table.now columns rows.now term group answers.old }
+    ensures buffer { answers.new ≡ query_buffer table.now columns rows.now term group answers.old }
 {
-    let vetted = query_verdict(table, columns, rows, term, group, answers);
-    match vetted {
-        Verdict::Refused(why) => QueryReply::Refused(why),
-        Verdict::Passed => QueryReply::Kept(parts::vetted::selected(
-            table, columns, rows, term as u8, group, answers,
-        )),
-    }
+    answered::<Parts>(table, columns, rows, term, group, answers)
+}
+
+// By either engine: both refuse the same, and write the same.
+fn answered<'a, E: Engine>(
+    table: &'a [u8],
+    columns: usize,
+    rows: &'a [i32],
+    term: usize,
+    group: u8,
+    answers: &mut [u16],
+) -> QueryReply
+    ensures reply { result ≡ query_reply table.now columns rows.now term group answers.old }
+    ensures buffer { answers.new ≡ query_buffer table.now columns rows.now term group answers.old }
+{
+    // A refused call writes nothing: all is vetted before.
+    query_verdict(table, columns, rows, term, group, answers)?;
+    Ok(rooms::selected::<E>(table, columns, rows, term as u8, group, answers))
 }

@@ -1,5 +1,5 @@
 -- Ranks by block, as a loop over records and one over blocks fill them in. Assumes nothing.
-use mathlib.Core.Path.{◌≡◌, refl, sym, ◌∙◌, ap, subst}
+use mathlib.Core.Path.{◌≡◌, refl, sym, ◌∙◌, subst}
 use mathlib.Core.Logic.{⊎_elim}
 use mathlib.Core.Bool.{Bool, true, false}
 use mathlib.Core.List.{List}
@@ -9,16 +9,14 @@ use lib.IntN.{ℤ, pos}
 use lib.ListN.{get_or}
 use Rattle.model.specs.declared.{BaseTerm.BaseTerm, Record.Record}
 use Rattle.model.specs.declared.Record.TheVariants.{Base, Compound, Unknown}
-use Rattle.model.specs.Record.{record_at, is_term}
+use Rattle.model.specs.Record.{record_at}
 use Rattle.model.specs.Better.{cell}
 use Rattle.model.specs.Query.{row_at}
 use Rattle.laws.specs.Search.{lt-suc-cases}
-use Rattle.laws.specs.AcceptedTable.{accepted-table}
-use Rattle.laws.specs.AcceptedKinds.{accepted-base}
 use Rattle.rows.specs.Places.{place-apart}
 use Rattle.rows.specs.Stretch.{Stretch}
 use Rattle.ranks.specs.Rank.{RankAt}
-use Rattle.ranks.specs.Ranked.{Ranked, RecordRankable, ColumnRankable}
+use Rattle.ranks.specs.Ranked.{Ranked, RankOf, Ranking}
 
 -- What a record says of a rank, and nothing where it is no base record.
 abbrev RankBy : List ℕ → ℕ → ℕ → List ℤ → ℤ → Record → Type 0
@@ -27,21 +25,7 @@ RankBy table k e row x (Base column t) = RankAt table k e t (cell row column) x
 RankBy table k e row x (Compound c) = Unit {0}
 RankBy table k e row x Unknown = Unit {0}
 
--- No base record.
-abbrev pub NoBase : Record → Type 0
-NoBase (Record.Value a) = Unit {0}
-NoBase (Base column t) = ⊥
-NoBase (Compound c) = Unit {0}
-NoBase Unknown = Unit {0}
-
 -- ---- a loop that fills in the ranks of record k by blocks
-
--- The ranks of the blocks below b are right, and those of the records below k are as they were. `Q r x` says of x that it is
--- right for row r.
-pub record Ranking (Q : ℕ → ℤ → Type 0) (n stride k b : ℕ) (before after : List ℤ) : Type 0 where
-  pub kept : (a j h : ℕ) → j < 64 → h < k
-      → get_or after (a * stride + h * 64 + j) (pos 0) ≡ get_or before (a * stride + h * 64 + j) (pos 0)
-  pub here : (a j : ℕ) → j < 64 → a * 64 + j < n → a < b → Q (a * 64 + j) (get_or after (a * stride + k * 64 + j) (pos 0))
 
 module _ (Q : ℕ → ℤ → Type 0) (n stride k : ℕ) (before : List ℤ) where
   -- No block yet.
@@ -50,11 +34,9 @@ module _ (Q : ℕ → ℤ → Type 0) (n stride k : ℕ) (before : List ℤ) whe
 
   -- One block more.
   pub ranking-more : k * 64 + 64 ≤ stride → (b m : ℕ) → m ≤ 64 → ((j : ℕ) → j < 64 → b * 64 + j < n → j < m)
-      → {R : ℤ → ℤ → Type 0} {columns from : ℕ} {rows list after : List ℤ}
-      → ((j : ℕ) (x : ℤ) → R (get_or rows (from + j * columns) (pos 0)) x → Q (b * 64 + j) x)
-      → Stretch R columns rows from m (b * stride + k * 64) list after → Ranking Q n stride k b before list
+      → {list after : List ℤ} → Stretch (λ j y. Q (b * 64 + j) y) m (b * stride + k * 64) list after → Ranking Q n stride k b before list
       → Ranking Q n stride k (b + 1) before after
-  ranking-more w b m most all {list} {after} right s r =
+  ranking-more w b m most all {list} {after} s r =
       record {
         kept = λ a j h l o. apart a j h l (omega (arith, o, w)) (λ i u x y. omega (arith, o, x)) ∙ r.kept a j h l o;
         here = λ a j l o q. ⊎_elim
@@ -70,12 +52,12 @@ module _ (Q : ℕ → ℤ → Type 0) (n stride k : ℕ) (before : List ℤ) whe
           (λ i v e. let d = place-apart stride a h j b k i l (omega (arith, v, most)) u w e in never i v d.0 d.1)
 
       new : (a j : ℕ) → j < 64 → a * 64 + j < n → a ≡ b → Q (a * 64 + j) (get_or after (a * stride + k * 64 + j) (pos 0))
-      new a j l o u = rw u (right j (get_or after (b * stride + k * 64 + j) (pos 0)) (s.here j (all j l (rw u at o))))
+      new a j l o u = rw u (s.here j (all j l (rw u at o)))
 
 module _ {table ends : List ℕ} {marks : List Bool} {columns : ℕ} {rows : List ℤ} {n stride k : ℕ} where
-  -- All blocks.
+  -- The ranks of record k besides those that were.
   pub ranked-all : {column : ℕ} {t : BaseTerm} (b : ℕ) {before after : List ℤ} → record_at table k ≡ Base column t → n ≤ b * 64
-      → Ranking (λ r x. RankAt table k (get_or ends k 0) t (cell (row_at columns rows r) column) x) n stride k b before after
+      → Ranking (RankOf table k (get_or ends k 0) t columns rows column) n stride k b before after
       → Ranked table ends marks columns rows n stride k before → Ranked table ends marks columns rows n stride (k + 1) after
   ranked-all {column} {t} b {before} {after} e f p r =
       record {
@@ -104,31 +86,4 @@ module _ {table ends : List ℕ} {marks : List Bool} {columns : ℕ} {rows : Lis
             (λ q. r.each b j h column t l m q d e)
             (λ q. absurd (none column t (rw q at d) (rw q at e)))
             (lt-suc-cases h k (omega (arith, o)));
-      }
-
-  pub ranked-none : (r : Record) → record_at table k ≡ r → NoBase r → Ranked table ends marks columns rows n stride k ranks
-      → Ranked table ends marks columns rows n stride (k + 1) ranks
-  ranked-none r e h = ranked-other (λ column t m q. subst NoBase (sym e ∙ q) h)
-
--- ---- what the rank of a column asks for
-
-module _ {table : List ℕ} {numbers : List ℤ} {ends : List ℕ} {k columns : ℕ} {rows : List ℤ} {n stride size : ℕ}
-    (ready : RecordRankable table numbers ends k columns rows n stride size) where
-  -- Record k is one of at most 128,
-  pub few : k < 128
-  few = omega (arith, ready.below, (accepted-table table columns ready.is_accepted).few_records)
-
-  -- and if it is a base record, its column and its values are known.
-  pub column-ready : (column : ℕ) (b : BaseTerm) → record_at table k ≡ Base column b
-      → ColumnRankable table numbers ends k column b columns rows n stride size
-  column-ready column b e =
-      record {
-        is_base = e;
-        few = few;
-        below = (accepted-base table columns ready.is_accepted k ready.below column b e).below;
-        values = (ready.runs.each k ready.below (ap is_term e)).values;
-        prepared = ready.prepared;
-        run = ready.run;
-        wide = ready.wide;
-        room = ready.room;
       }

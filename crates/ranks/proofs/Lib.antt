@@ -1,5 +1,4 @@
 pub mod Ranks
-pub mod Stored
-pub mod Named
 pub mod ClassesLaws
+pub mod Named
 pub mod Filled

@@ -1,19 +1,20 @@
--- What a value record puts for the cells that it names (SPECIFICATION, "When a row is better"). Cell j's entry is j places
--- after the first.
-use Rattle.std.specs.Prelude.{Bool, cond, ◌&&◌, List, ℕ, zero, suc, ◌+◌, ◌*◌, ◌-◌, eqb, ℤ, pos, get_or}
+-- What a value record puts for the cells that it names (SPECIFICATION, "When a row is better").
+use Rattle.std.specs.Prelude.{◌≡◌, Bool, cond, ◌&&◌, List, ℕ, zero, suc, ◌+◌, ◌*◌, ◌-◌, eqb, ℤ, pos, get_or, length}
 use Rattle.model.specs.declared.Value.{Value}
 use Rattle.model.specs.Bytes.{eq_z}
 use Rattle.model.specs.Record.{p_at, u_at}
 use Rattle.model.specs.Better.{in_role}
+use Rattle.laws.specs.Wrote.{Wrote}
 use Rattle.terms.specs.Prepared.{number_at}
 
--- y for a cell that passes the test; the entries of the others stay.
-unfoldable pub put_lane : (ℤ → Bool) → ℤ → List ℤ → List ℤ → ℕ → ℕ → ℤ
-put_lane test y cells old at j = cond (test (get_or cells j (pos 0))) y (get_or old (at + j) (pos 0))
+-- What f makes of cell j and of the entry that stands j places after `at`,
+unfoldable pub put_lane : (ℤ → ℤ → ℤ) → List ℤ → List ℤ → ℕ → ℕ → ℤ
+put_lane f cells old at j = f (get_or cells j (pos 0)) (get_or old (at + j) (pos 0))
 
--- An entry that is made from the cell alone.
-unfoldable pub cell_lane : (ℤ → ℤ) → List ℤ → ℕ → ℤ
-cell_lane f cells j = f (get_or cells j (pos 0))
+-- and each entry is made so, from the cell beside it and from what it was.
+pub record Put (f : ℤ → ℤ → ℤ) (cells before after : List ℤ) : Type 0 where
+  pub size : length after ≡ length before
+  pub all : Wrote (pos 0) (put_lane f cells before 0) 0 (length before) before after
 
 -- The number is u.
 unfoldable pub is_number : ℤ → ℤ → Bool
@@ -35,10 +36,6 @@ two_roles values others role class x = cond (in_role 1 values x) (pos 0) (one_ro
 unfoldable pub last_place : List ℕ → ℕ → ℤ → ℕ → ℤ → ℤ
 last_place table first none zero x = none
 last_place table first none (suc n) x = cond (is_number (number_at table (first + n)) x) (pos n) (last_place table first none n x)
-
--- The last of the n places for a cell; the entry of a cell at none of them stays.
-unfoldable pub place_lane : List ℕ → ℕ → ℕ → List ℤ → List ℤ → ℕ → ℕ → ℤ
-place_lane table first n cells old at j = last_place table first (get_or old (at + j) (pos 0)) n (get_or cells j (pos 0))
 
 -- A place among the ends of term k's edges, counted from the first; past the last for a number in no edge.
 unfoldable pub edge_place : List ℕ → ℕ → ℕ → ℤ → ℤ

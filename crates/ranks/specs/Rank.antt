@@ -37,18 +37,6 @@ pub record PlaceOf (table : List ℕ) (k e : ℕ) (x r : ℤ) : Type 0 where
   pub is : r ≡ pos place
   pub ends : EndPlace table k e x (2 * k + 2 + place)
 
--- r is the rank of x under HIGHEST,
-abbrev pub Mirrored : ℤ → ℤ → Type 0
-Mirrored x r = r ≡ mirror x
-
--- under AROUND,
-abbrev pub RankAround : ℤ → ℤ → ℤ → Type 0
-RankAround wish x r = r ≡ centred (distance wish x)
-
--- and under BETWEEN.
-abbrev pub RankBetween : ℤ → ℤ → ℤ → ℤ → Type 0
-RankBetween low up x r = r ≡ centred (distance_between low up x)
-
 -- r is the rank of x under base term k, whose values are the records from k + 1 to before e.
 abbrev pub RankAt : List ℕ → ℕ → ℕ → BaseTerm → ℤ → ℤ → Type 0
 RankAt table k e Lowest x r = r ≡ rank_of Lowest (values_between table k e) x

@@ -1,10 +1,17 @@
-// The rank of a value under a base term that goes by distance: the lower is better.
+// The rank of a value under a base term that goes by its number: the lower is better.
 ghost use Rattle.std.specs.Prelude.{◌≡◌, pos, ◌-ℤ◌};
 ghost use Rattle.model.specs.Bytes.{Value32};
 ghost use Rattle.model.specs.Better.{distance, distance_between};
-ghost use Rattle.ranks.specs.Rank.{centred};
+ghost use Rattle.ranks.specs.Rank.{centred, mirror};
 
 use terms::distances::{distance, distance_between};
+
+// HIGHEST: the higher value has the lower rank.
+pub fn mirror_rank(x: i32) -> i32
+    ensures { result ≡ mirror x }
+{
+    -1 - x
+}
 
 // AROUND: by distance to the wish.
 pub fn around_rank(wish: i32, x: i32) -> i32

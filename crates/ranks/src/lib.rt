@@ -1,9 +1,7 @@
 // The rank of every row under every base term, once per query, for both engines: the lower is better.
 #![tactic(auto)]
 
-mod classes;
 mod distance;
-mod distances;
 mod stretches;
 mod values;
 pub mod vetted;

@@ -8,6 +8,7 @@ ghost use Rattle.records.specs.Fields.{u_word, v_word};
 use model::{BaseTerm, CompoundTerm, Pair, RECORD_BYTES, Record, Value};
 
 // Record k.
+#[tactic(auto, unfolding(model::specs::Record::record_at))]
 pub fn record_at(table: &[u8], k: u8) -> Record
     ensures { result ≡ record_at table.now k }
 {
@@ -21,6 +22,7 @@ pub fn record_at(table: &[u8], k: u8) -> Record
 }
 
 // The record of a kind with these fields.
+#[tactic(auto, unfolding(model::specs::Record::record_of))]
 pub fn record_of(kind: u8, p: u8, q: u8, u: i32, v: i32) -> Record
     ensures { result ≡ record_of kind p q u v }
 {
@@ -45,24 +47,28 @@ pub fn record_of(kind: u8, p: u8, q: u8, u: i32, v: i32) -> Record
 }
 
 // The fields of record k.
+#[tactic(auto, unfolding(model::specs::Record::kind_at))]
 pub fn kind_at(table: &[u8], k: u8) -> u8
     ensures { result ≡ kind_at table.now k }
 {
     byte_at(table, RECORD_BYTES * (k as usize))
 }
 
+#[tactic(auto, unfolding(model::specs::Record::p_at))]
 pub fn p_at(table: &[u8], k: u8) -> u8
     ensures { result ≡ p_at table.now k }
 {
     byte_at(table, RECORD_BYTES * (k as usize) + 1)
 }
 
+#[tactic(auto, unfolding(model::specs::Record::q_at))]
 pub fn q_at(table: &[u8], k: u8) -> u8
     ensures { result ≡ q_at table.now k }
 {
     byte_at(table, RECORD_BYTES * (k as usize) + 2)
 }
 
+#[tactic(auto, unfolding(model::specs::Record::s_at))]
 pub fn s_at(table: &[u8], k: u8) -> u8
     ensures { result ≡ s_at table.now k }
 {
@@ -72,13 +78,13 @@ pub fn s_at(table: &[u8], k: u8) -> u8
 pub fn u_at(table: &[u8], k: u8) -> i32
     ensures { result ≡ u_at table.now k }
 {
-    to_signed(u_word(table, k))
+    u_word(table, k).cast_signed()
 }
 
 pub fn v_at(table: &[u8], k: u8) -> i32
     ensures { result ≡ v_at table.now k }
 {
-    to_signed(v_word(table, k))
+    v_word(table, k).cast_signed()
 }
 
 // u and v as their 32 bits.
@@ -94,57 +100,27 @@ pub fn v_word(table: &[u8], k: u8) -> u32
     word_at(table, RECORD_BYTES * (k as usize) + 8)
 }
 
-// 32 bits read as two's complement.
-fn to_signed(word: u32) -> i32
-    ensures { result ≡ signed word }
-{
-    if word < 2147483648 {
-        return word as i32;
-    }
-    let m = 4294967295 - word;
-    -1 - (m as i32)
-}
-
 // The four bytes from `at` on, low byte first. Where all are there, they are read at once.
+#[tactic(auto, unfolding(model::specs::Bytes::word_at, model::specs::Bytes::byte_at))]
 fn word_at(bytes: &[u8], at: usize) -> u32
     requires { at < 65536 }
     ensures { result ≡ word_at bytes.now at }
 {
     if at + 3 < bytes.len() {
-        return word_in(bytes, at);
+        return u32::from_le_bytes([bytes[at], bytes[at + 1], bytes[at + 2], bytes[at + 3]]);
     }
-    word_of(
+    u32::from_le_bytes([
         byte_at(bytes, at),
         byte_at(bytes, at + 1),
         byte_at(bytes, at + 2),
         byte_at(bytes, at + 3),
-    )
-}
-
-// The four bytes from `at` on, where all are there.
-fn word_in(bytes: &[u8], at: usize) -> u32
-    requires { (at < 65536) × (at + 3 < length bytes.now) }
-    ensures { result ≡ word_at bytes.now at }
-{
-    word_of(bytes[at], bytes[at + 1], bytes[at + 2], bytes[at + 3])
-}
-
-// Four bytes as a number, low byte first.
-fn word_of(a: u8, b: u8, c: u8, d: u8) -> u32
-    ensures { result ≡ a + 256 * b + 65536 * c + 16777216 * d }
-{
-    wide(a) + 256 * wide(b) + 65536 * wide(c) + 16777216 * wide(d)
-}
-
-fn wide(x: u8) -> u32
-    ensures { result ≡ x }
-{
-    x as u32
+    ])
 }
 
 // Byte number `at`.
+#[tactic(auto, unfolding(model::specs::Bytes::byte_at))]
 fn byte_at(bytes: &[u8], at: usize) -> u8
     ensures { result ≡ byte_at bytes.now at }
 {
-    if at < bytes.len() { bytes[at] } else { 0 }
+    bytes.get(at).copied().unwrap_or(0)
 }

@@ -6,15 +6,15 @@ ghost use Rattle.records.specs.Parts.{roles_in};
 
 use crate::parts::is_term_at;
 use crate::record::record_at;
-use model::{BaseTerm, Record};
+use model::{BaseTerm, Record, Role};
 
 // The nearest term record before record k; 0 where there is none.
+// As it is: 0 and no Option, which is no plainer: the specification's own search gives 0 there.
 pub fn nearest_term(table: &[u8], k: u8) -> u8
-    ensures { (result ≡ nearest_term table.now k) × (result ≤ k) }
+    ensures nearest { result ≡ nearest_term table.now k }
+    ensures within { result ≤ k }
 {
-    let mut i = k;
-    while 0 < i {
-        i -= 1;
+    for i in (0..k).rev() {
         if is_term_at(table, i) {
             return i;
         }
@@ -23,30 +23,26 @@ pub fn nearest_term(table: &[u8], k: u8) -> u8
 }
 
 // Whether a record takes values in this role.
+#[tactic(auto, unfolding(model::specs::Search::any_in))]
 pub fn takes_role(r: Record, role: u8) -> bool
     ensures { result ≡ any_in (roles_of r) (eqb role) }
 {
     match r {
         Record::Base(_, b) => base_takes_role(b, role),
-        Record::Value(_) => false,
-        Record::Compound(_) => false,
-        Record::Unknown => false,
+        Record::Value(_) | Record::Compound(_) | Record::Unknown => false,
     }
 }
 
+#[tactic(auto, unfolding(model::specs::Search::any_in))]
 fn base_takes_role(b: BaseTerm, role: u8) -> bool
     ensures { result ≡ any_in (roles_in b) (eqb role) }
 {
     match b {
-        BaseTerm::Pos => role == 1,
-        BaseTerm::Neg => role == 2,
-        BaseTerm::PosNeg => (role == 1) | (role == 2),
-        BaseTerm::PosPos => (role == 1) | (role == 3),
-        BaseTerm::Explicit => role == 4,
-        BaseTerm::Lowest => false,
-        BaseTerm::Highest => false,
-        BaseTerm::Around(_) => false,
-        BaseTerm::Between(_, _) => false,
-        BaseTerm::Any => false,
+        BaseTerm::Pos => role == Role::Favourite as u8,
+        BaseTerm::Neg => role == Role::Disliked as u8,
+        BaseTerm::PosNeg => (role == Role::Favourite as u8) | (role == Role::Disliked as u8),
+        BaseTerm::PosPos => (role == Role::Favourite as u8) | (role == Role::SecondChoice as u8),
+        BaseTerm::Explicit => role == Role::Edge as u8,
+        _ => false,
     }
 }

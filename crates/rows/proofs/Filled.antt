@@ -11,7 +11,7 @@ use Rattle.model.specs.Query.{row_at}
 use Rattle.laws.specs.Search.{lt-suc-cases}
 use Rattle.rows.specs.Values.{Valued, Filled}
 use Rattle.rows.specs.Places.{place-apart}
-use Rattle.rows.specs.Stretch.{Same, Stretch, cell_at}
+use Rattle.rows.specs.Stretch.{Stretch}
 
 module _ (columns : ℕ) (rows : List ℤ) (n : ℕ) where
   -- No block yet.
@@ -38,7 +38,7 @@ module _ (columns : ℕ) (rows : List ℤ) (n : ℕ) where
   -- One column of block b more.
   pub filled-column : (b c m : ℕ) (before after : List ℤ) → columns ≤ 8 → c < columns → m ≤ 64
       → ((j : ℕ) → j < 64 → b * 64 + j < n → j < m)
-      → Stretch Same columns rows (b * 64 * columns + c) m (b * 512 + c * 64) before after → Filled columns rows n b c before
+      → Stretch (λ j y. y ≡ cell (row_at columns rows (b * 64 + j)) c) m (b * 512 + c * 64) before after → Filled columns rows n b c before
       → Filled columns rows n b (c + 1) after
   filled-column b c m before after few w most all s f =
       record {
@@ -58,4 +58,4 @@ module _ (columns : ℕ) (rows : List ℤ) (n : ℕ) where
 
       new : (j h : ℕ) → j < 64 → b * 64 + j < n → h ≡ c
           → get_or after (b * 512 + h * 64 + j) (pos 0) ≡ cell (row_at columns rows (b * 64 + j)) h
-      new j h k l q = rw q (s.here j (all j k l) ∙ cell_at columns n b c w rows j)
+      new j h k l q = rw q (s.here j (all j k l))

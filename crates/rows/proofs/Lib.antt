@@ -1,2 +1,3 @@
 pub mod Filled
-pub mod Raised
+pub mod LowByte
+pub mod Put

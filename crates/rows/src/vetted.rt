@@ -1,4 +1,6 @@
 // Inner functions that other crates call. They are no public calls: each asks what was shown or prepared before.
 pub mod cells;
+pub mod column;
 pub mod groups;
 pub mod keys;
+pub mod run;

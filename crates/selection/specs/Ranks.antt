@@ -1,9 +1,10 @@
 -- What both engines' ranks of rows ask, from what a call takes. Assumes nothing.
-use Rattle.std.specs.Prelude.{◌≡◌, Bool, List, ℕ, ◌+◌, ◌*◌, ◌/◌, ◌<◌, ◌≤◌, ℤ}
+use Rattle.std.specs.Prelude.{◌≡◌, Bool, List, ℕ, ◌+◌, ◌*◌, ◌/◌, ◌<◌, ◌≤◌, ℤ, length}
 use Rattle.std.proofs.Common.{mul-le-mul_right, suc-mul, arith}
 use Rattle.laws.specs.Taken.{TakenTerm}
 use Rattle.terms.specs.Prepared.{Numbers, RunEnds}
 use Rattle.rows.specs.Values.{Room}
+use Rattle.plan.specs.declared.vetted.exit_masks.{Exit.Exit}
 use Rattle.plan.specs.Beneath.{Marked}
 use Rattle.ranks.specs.Ranked.{Rankable}
 use Rattle.selection.specs.Selected.{AskedRows, StrideFor}
@@ -41,20 +42,26 @@ most-ranks n stride h k =
 pub stride-for : {table : List ℕ} {columns term : ℕ} → TakenTerm table columns term → StrideFor term (term * 64 + 64)
 stride-for t = record { wide = omega arith; narrow = omega (arith, term-below t) }
 
+-- What the rows' ranks ask, and what the values that a call hands down hold besides.
+pub record RowsRankable (table : List ℕ) (numbers : List ℤ) (ends : List ℕ) (marks : List Bool) (term columns : ℕ)
+    (rows : List ℤ) (n stride size : ℕ) : Type 0 where
+  pub ranks : Rankable table ends term columns n stride size
+  pub prepared : Numbers table numbers
+  pub marked : length marks ≡ 128
+  pub run : length rows ≡ n * columns
+  pub narrow : stride ≤ 8192
+
 module _ {table : List ℕ} {columns term : ℕ} {rows : List ℤ} {n stride : ℕ}
     (asked : AskedRows table columns term rows n) (strides : StrideFor term stride) where
   -- What the rows' ranks are made from.
-  pub rankable : {numbers : List ℤ} {ends exits : List ℕ} {marks : List Bool} {size : ℕ}
+  pub rankable : {numbers : List ℤ} {ends : List ℕ} {exits : List Exit} {marks : List Bool} {size : ℕ}
       → Numbers table numbers → RunEnds table ends → Marked table term exits marks → Room n stride size
-      → Rankable table numbers ends marks term columns rows n stride size
+      → RowsRankable table numbers ends marks term columns rows n stride size
   rankable a e m room =
       record {
-        taken = asked.taken;
+        ranks = record { taken = asked.taken; runs = e; wide = strides.wide; room = room };
         prepared = a;
-        runs = e;
         marked = m.room;
         run = asked.run;
-        wide = strides.wide;
         narrow = strides.narrow;
-        room = room;
       }

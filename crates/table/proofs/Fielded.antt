@@ -5,7 +5,9 @@ use mathlib.Core.List.{List}
 use Prim.Native.Nat.{ℕ, ◌<◌, ◌≤◌}
 use native.Mathlib.Omega.{arith}
 use borrow.Author.Tests.{ltb-true, lt-ltb, not-false}
-use Rattle.model.specs.declared.{Record.Record, Refusal.Refusal, Verdict.Verdict}
+use Rattle.std.specs.Prelude.{Ok}
+use Rattle.model.specs.Words.{Verdict}
+use Rattle.model.specs.declared.{Record.Record, Refusal.Refusal}
 use Rattle.model.specs.declared.Record.TheVariants.{Base, Compound, Unknown}
 use Rattle.model.specs.Record.{record_at}
 use Rattle.model.specs.Replies.{refusal}
@@ -15,7 +17,7 @@ use Rattle.laws.specs.Accepted.{Judged, judged-below}
 use Rattle.table.specs.Judging.{refuse_or, judge_fields, Fielded}
 
 -- One rule of a chain that passes.
-cut : (b : Bool) (why : Refusal) (next : Verdict) → refuse_or b why next ≡ Verdict.Passed → (b ≡ false) × (next ≡ Verdict.Passed)
+cut : (b : Bool) (why : Refusal) (next : Verdict) → refuse_or b why next ≡ Ok tt → (b ≡ false) × (next ≡ Ok tt)
 cut b why next e =
     let both = (then-passed (refuse_if b why) next).0 e in ((refuse-passed b why).0 both.0, both.1)
 

@@ -1,7 +1,7 @@
 -- No path begins where no edge does, and none ends where no edge does. Assumes nothing.
 use mathlib.Core.Path.{◌≡◌, refl}
 use mathlib.Core.Logic.{⊎_elim}
-use mathlib.Core.Bool.{Bool, true, false, ◌||◌, and-false}
+use mathlib.Core.Bool.{Bool, false, ◌||◌, and-false}
 use mathlib.Core.List.{List, [], ◌∷◌}
 use lib.IntN.{ℤ}
 use Rattle.model.specs.declared.{Value.Value}
@@ -10,7 +10,7 @@ use Rattle.model.specs.Search.{any_in}
 use Rattle.model.specs.Better.{reaches}
 use Rattle.laws.specs.Bools.{on-or-off}
 use Rattle.laws.specs.Members.{or_off, and-off}
-use Rattle.table.specs.Rules.{goes_on, on_and_back}
+use Rattle.table.specs.Rules.{goes_on, goes_back, on_and_back}
 
 starts_none : (es : List Value) (x y : ℤ) → any_in es (λ (b : Value). eq_z x b.u) ≡ false → reaches es x y ≡ false
 unfolding any_in reaches
@@ -28,10 +28,10 @@ ends-none (e ∷ es) x y h =
 
 -- So none leads from an edge's end to its beginning where no edge goes on from it, or none backward.
 pub no-path : (es : List Value) (a : Value) → on_and_back es a ≡ false → reaches es a.v a.u ≡ false
-unfolding on_and_back goes_on
+unfolding on_and_back goes_on goes_back
 no-path es a h =
-    let on : Bool = any_in es (goes_on false a) in
+    let on : Bool = any_in es (goes_on a) in
     ⊎_elim
-    (λ e. ends-none es a.v a.u (and-off on (any_in es (goes_on true a)) h e))
+    (λ e. ends-none es a.v a.u (and-off on (any_in es (goes_back a)) h e))
     (λ e. starts_none es a.v a.u e)
     (on-or-off on)

@@ -4,8 +4,11 @@ use mathlib.Core.List.{List}
 use Prim.Native.Nat.{ℕ, ◌+◌, ◌-◌, ◌<◌, ◌≤◌}
 use native.Mathlib.Omega.{arith}
 use lib.Dec.{leb}
+use borrow.Author.Tests.{lt-leb}
+use Rattle.model.specs.Words.{Verdict}
 use Rattle.model.specs.declared.{Record.Record}
 use Rattle.model.specs.Record.{kind_at, record_of, record_at, nearest_term}
+use Rattle.model.specs.Replies.{refusal}
 use Rattle.model.specs.Check.{fails_crowd, fails_clash, fails_loop}
 use Rattle.laws.specs.AcceptedRuns.{Run, run_of}
 use Rattle.laws.specs.ValueRules.{value-crowd, value-clash, value-loop}
@@ -13,7 +16,7 @@ use Rattle.laws.specs.Records.{kind_number, kind-of}
 use Rattle.records.specs.Fields.{value_at}
 use Rattle.terms.specs.Run.{Values}
 use Rattle.table.specs.Rules.{clash_in, loop_in}
-use Rattle.table.specs.Judging.{ValueFielded}
+use Rattle.table.specs.Judging.{refuse_or, judge_run, ValueFielded}
 use Rattle.table.proofs.Fielded.{rest_of, below}
 
 value-record : (table : List ℕ) (i : ℕ) → kind_at table i ≡ 0 → record_at table i ≡ Record.Value (value_at table i)
@@ -49,3 +52,12 @@ module _ (table : List ℕ) (columns k : ℕ) (f : ValueFielded table columns k)
   pub loop-is : fails_loop table k ≡ loop_in table (nearest_term table k) k
   unfolding loop_in
   loop-is = value-loop table k (value_at table k) here ∙ rw run.earlier
+
+  -- With at most 16 of them CROWD refuses nothing, and CLASH and LOOP are left.
+  pub run-few : k ≤ nearest_term table k + 16 → (next : Verdict)
+      → judge_run table k next
+      ≡ refuse_or (clash_in table (nearest_term table k) k) (refusal 10 k)
+      (refuse_or (loop_in table (nearest_term table k) k) (refusal 11 k) next)
+  unfolding judge_run
+  run-few h next =
+      rw (crowd-is, lt-leb 16 (k - nearest_term table k - 1) (omega (arith, run.before)), clash-is, loop-is) refl

@@ -2,21 +2,18 @@
 use mathlib.Core.Path.{◌≡◌, refl, sym, ◌∙◌, ap}
 use mathlib.Core.List.{List}
 use Prim.Native.Nat.{ℕ}
-use Rattle.model.specs.declared.{Verdict.Verdict}
+use Rattle.std.specs.Prelude.{Ok, Err}
+use Rattle.model.specs.Words.{Verdict}
 use Rattle.model.specs.Check.{◌then◌, judge}
 use Rattle.table.specs.Judging.{judge_fields, judge_run, judge_shape}
 
 then-assoc : (a b c : Verdict) → ((a then b) then c) ≡ (a then (b then c))
-then-assoc Verdict.Passed b c = refl
-then-assoc (Verdict.Refused why) b c = refl
-
-pub then-end : (a : Verdict) → (a then Verdict.Passed) ≡ a
-then-end Verdict.Passed = refl
-then-end (Verdict.Refused why) = refl
+then-assoc (Ok u) b c = refl
+then-assoc (Err why) b c = refl
 
 module _ (table : List ℕ) (columns k : ℕ) where
   -- The chain of 3 to 8 can be cut off and taken up again.
-  pub fields-next : (next : Verdict) → judge_fields table columns k next ≡ (judge_fields table columns k Verdict.Passed then next)
+  pub fields-next : (next : Verdict) → judge_fields table columns k next ≡ (judge_fields table columns k (Ok tt) then next)
   unfolding judge_fields
   fields-next next = sym (simp then-assoc)
 
@@ -26,7 +23,7 @@ module _ (table : List ℕ) (columns k : ℕ) where
   judge-steps = refl
 
   -- So the verdict of 3 to 8 goes first, then that of 9 to 13.
-  pub judge-after : (first : Verdict) → judge_fields table columns k Verdict.Passed ≡ first
+  pub judge-after : (first : Verdict) → judge_fields table columns k (Ok tt) ≡ first
       → judge table columns k ≡ (first then judge_run table k (judge_shape table k))
   judge-after first e =
       judge-steps ∙ fields-next (judge_run table k (judge_shape table k)) ∙ ap (λ (v : Verdict). v then judge_run table k (judge_shape table k)) e

@@ -7,7 +7,8 @@ use native.Mathlib.Omega.{arith}
 use lib.Dec.{eqb, leb, ltb}
 use lib.ListN.{length}
 use borrow.Author.Tests.{leb-true, ltb-false, lt-ltb, not-false}
-use Rattle.model.specs.declared.{Refusal.Refusal, Verdict.Verdict}
+use Rattle.std.specs.Prelude.{Ok, Err}
+use Rattle.model.specs.declared.Refusal.{Refusal}
 use Rattle.model.specs.Record.{record_count, record_at}
 use Rattle.model.specs.Term.{term_at, columns_of}
 use Rattle.model.specs.Replies.{refusal}
@@ -54,7 +55,7 @@ loose-is table n near terms used few c k h =
 
 -- The records passed: the verdict is that on LOOSE.
 pub records-loose : (table : List ℕ) (columns n near : ℕ) (terms used : List Bool) → n ≤ 128 → Carried table n near terms used
-    → each_below n (judge table columns) ≡ Verdict.Passed
+    → each_below n (judge table columns) ≡ Ok tt
     → each_below n (λ (k : ℕ). refuse_if (loose_by terms used near k) (refusal 14 k)) ≡ records_verdict table columns n
 unfolding records_verdict
 records-loose table columns n near terms used few c passed =
@@ -62,16 +63,16 @@ records-loose table columns n near terms used few c passed =
     ∙ sym (then_next (each_below n (judge table columns)) _ passed)
 
 -- One record is refused: the verdict is that on it.
-pub records-refused : (table : List ℕ) (columns n k : ℕ) (why : Refusal) → k < n → each_below k (judge table columns) ≡ Verdict.Passed
-    → judge table columns k ≡ Verdict.Refused why
-    → records_verdict table columns n ≡ Verdict.Refused why
+pub records-refused : (table : List ℕ) (columns n k : ℕ) (why : Refusal) → k < n → each_below k (judge table columns) ≡ Ok tt
+    → judge table columns k ≡ Err why
+    → records_verdict table columns n ≡ Err why
 unfolding records_verdict
 records-refused table columns n k why h passed refused =
     then-first (each_below n (judge table columns)) _ why (each_first (judge table columns) n k why h passed refused)
 
 -- ---- the summary
 
-module _ (table : List ℕ) (columns : ℕ) (passed : table_verdict table columns ≡ Verdict.Passed) where
+module _ (table : List ℕ) (columns : ℕ) (passed : table_verdict table columns ≡ Ok tt) where
   accepts : Accepted table columns
   accepts = accepted-gives table columns passed
 

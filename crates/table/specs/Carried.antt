@@ -1,5 +1,5 @@
 -- What the check carries from record to record, so that no rule looks for it again.
-use Rattle.std.specs.Prelude.{◌≡◌, Bool, true, false, cond, ◌&&◌, List, ℕ, ◌<◌, ltb, get_or, set}
+use Rattle.std.specs.Prelude.{◌≡◌, Bool, false, ◌&&◌, List, ℕ, ◌<◌, ltb, get_or}
 use Rattle.model.specs.Record.{record_at, is_term, nearest_term}
 use Rattle.model.specs.Check.{is_part}
 
@@ -16,7 +16,3 @@ pub record Carried (table : List ℕ) (k near : ℕ) (terms used : List Bool) : 
   pub nearest : near ≡ nearest_term table k
   pub terms_below : TermsBelow table k terms
   pub used_below : UsedBelow table k used
-
--- The used ones with one more, where there is a part.
-unfoldable pub marked : Bool → ℕ → List Bool → List Bool
-marked there part used = cond there (set used part true) used

@@ -1,11 +1,11 @@
 -- One record judged in steps: 3 to 8; then 9 to 13, which rest on 3 to 8 and on the records before.
-use Rattle.std.specs.Prelude.{◌≡◌, Bool, List, ℕ, ◌<◌, ◌≤◌}
-use Rattle.model.specs.declared.{Refusal.Refusal, Verdict.Verdict}
+use Rattle.std.specs.Prelude.{◌≡◌, Bool, List, ℕ, ◌<◌, ◌≤◌, Ok}
+use Rattle.model.specs.Words.{Verdict}
+use Rattle.model.specs.declared.Refusal.{Refusal}
 use Rattle.model.specs.Record.{kind_at, record_at}
 use Rattle.model.specs.Replies.{refusal}
 use Rattle.model.specs.Check.{refuse_if, ◌then◌, each_below, judge, fails_kind, fails_filler, fails_column, fails_part}
 use Rattle.model.specs.Check.{fails_reused, fails_stray, fails_crowd, fails_clash, fails_loop, fails_bounds, fails_apart}
-use Rattle.table.specs.Carried.{Carried}
 
 -- One rule, then the verdict of the rules after it.
 abbrev pub refuse_or : Bool → Refusal → Verdict → Verdict
@@ -36,17 +36,12 @@ judge_shape table k = refuse_or (fails_bounds table k) (refusal 12 k) (refuse_if
 pub record Reached (table : List ℕ) (columns k : ℕ) : Type 0 where
   pub few : k < 128
   pub narrow : columns ≤ 8
-  pub passed : each_below k (judge table columns) ≡ Verdict.Passed
-
--- It comes with what the check carries up to it.
-pub record Brought (table : List ℕ) (columns k near : ℕ) (terms used : List Bool) : Type 0 where
-  pub reached : Reached table columns k
-  pub carried : Carried table k near terms used
+  pub passed : each_below k (judge table columns) ≡ Ok tt
 
 -- It passed 3 to 8 too.
 pub record Fielded (table : List ℕ) (columns k : ℕ) : Type 0 where
   pub reached : Reached table columns k
-  pub fields : judge_fields table columns k Verdict.Passed ≡ Verdict.Passed
+  pub fields : judge_fields table columns k (Ok tt) ≡ Ok tt
 
 -- It is a value record.
 pub record ValueFielded (table : List ℕ) (columns k : ℕ) : Type 0 where

@@ -1,6 +1,6 @@
 -- The records in order with their number handed in, and what the summary of an accepted table rests on.
 use Rattle.std.specs.Prelude.{Bool, false, not, ◌&&◌, List, ℕ, ◌*◌, ◌<◌, ◌≤◌, eqb, length, get_or}
-use Rattle.model.specs.declared.Verdict.{Verdict}
+use Rattle.model.specs.Words.{Verdict}
 use Rattle.model.specs.Record.{record_count, record_at, is_term, nearest_term}
 use Rattle.model.specs.Replies.{refusal}
 use Rattle.model.specs.Check.{refuse_if, ◌then◌, each_below, judge, is_part, top_of}

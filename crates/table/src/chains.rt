@@ -1,64 +1,55 @@
 // The rules of one record in two chains, 3 to 8 and 9 to 11 (SPECIFICATION, "What a call refuses"). The first takes what the
 // check carries up to the record; the second asks that the first has passed.
-ghost use Rattle.std.specs.Prelude.{◌≡◌};
-ghost use Rattle.model.specs.declared.Verdict.TheVariants.{Passed};
+ghost use Rattle.std.specs.Prelude.{◌≡◌, Ok};
 ghost use Rattle.model.specs.Record.{nearest_term};
-ghost use Rattle.table.specs.Filler.{ZeroRows};
-ghost use Rattle.table.specs.Carried.{Carried};
 ghost use Rattle.table.specs.Judging.{judge_fields, judge_run, ValueFielded};
 
+use crate::before::Before;
 use crate::filler::fails_filler;
 use crate::rules::{fails_column, fails_kind, fails_part, fails_reused, fails_stray};
 use crate::runs::{fails_clash, fails_loop};
-use crate::steps::refuse_or;
 use model::{MOST_VALUES, Refusal, Verdict};
 
 // 3 to 8.
-pub fn judge_fields(
-    table: &[u8],
-    columns: u8,
-    k: u8,
-    near: u8,
-    terms: &[bool; 256],
-    used: &[bool; 256],
-    zero: &[u8; 16],
-) -> Verdict
-    requires { Carried table.now k near terms.now used.now × ZeroRows zero.now }
-    ensures { result ≡ judge_fields table.now columns k Passed }
+#[tactic(auto, unfolding(crate::specs::Judging::judge_fields, model::specs::Replies::refusal, model::specs::Replies::numbered, model::specs::Replies::refusals))]
+pub fn judge_fields(before: &Before, columns: u8) -> Verdict
+    ensures { result ≡ judge_fields before.now.table.now columns before.now.k (Ok tt) }
 {
-    if fails_kind(table, k) {
-        return Verdict::Refused(Refusal::Kind(k));
+    let k = before.k;
+    if fails_kind(before.table, k) {
+        return Err(Refusal::Kind(k));
     }
-    if fails_filler(table, k, zero) {
-        return Verdict::Refused(Refusal::Filler(k));
+    if fails_filler(before.table, k, before.zero) {
+        return Err(Refusal::Filler(k));
     }
-    if fails_column(table, columns, k) {
-        return Verdict::Refused(Refusal::Column(k));
+    if fails_column(before.table, columns, k) {
+        return Err(Refusal::Column(k));
     }
-    if fails_part(table, k, terms) {
-        return Verdict::Refused(Refusal::Part(k));
+    if fails_part(before) {
+        return Err(Refusal::Part(k));
     }
-    if fails_reused(table, k, used) {
-        return Verdict::Refused(Refusal::Reused(k));
+    if fails_reused(before) {
+        return Err(Refusal::Reused(k));
     }
-    if fails_stray(table, k, near) {
-        return Verdict::Refused(Refusal::Stray(k));
+    if fails_stray(before) {
+        return Err(Refusal::Stray(k));
     }
-    Verdict::Passed
+    Ok(())
 }
 
-// 9 to 11, of a value of term `near`, the last rule first. LOOP looks at no more than 16 edges, so that CROWD goes first.
+// 9 to 11, of a value of term `near`. LOOP looks at no more than 16 edges, since CROWD goes first.
 pub fn judge_run(table: &[u8], columns: u8, k: u8, near: u8) -> Verdict
     requires { ValueFielded table.now columns k × (near ≡ nearest_term table.now k) }
-    ensures { result ≡ judge_run table.now k Passed }
+    ensures { result ≡ judge_run table.now k (Ok tt) }
 {
     if MOST_VALUES < (k - near) as usize {
-        return Verdict::Refused(Refusal::Crowd(k));
+        return Err(Refusal::Crowd(k));
     }
-    let v = refuse_or(
-        fails_loop(table, near, k),
-        Refusal::Loop(k),
-        Verdict::Passed,
-    );
-    refuse_or(fails_clash(table, near, k), Refusal::Clash(k), v)
+    if fails_clash(table, near, k) {
+        return Err(Refusal::Clash(k));
+    }
+    if fails_loop(table, near, k) {
+        return Err(Refusal::Loop(k));
+    }
+    Ok(())
 }

@@ -4,6 +4,7 @@ ghost use Rattle.std.specs.Prelude.{◌≡◌, true, ◌<◌};
 ghost use Rattle.model.specs.Check.{fails_filler};
 ghost use Rattle.table.specs.Filler.{has_field, in_list, row_of, ZeroRows};
 
+use model::{Kind, Role};
 use records::record::{kind_at, p_at, q_at, s_at, u_at, v_at};
 
 // The fields as bits. p is filled for every kind.
@@ -60,6 +61,7 @@ pub fn fails_filler(table: &[u8], k: u8, zero: &[u8; 16]) -> bool
 }
 
 // Whether the field is one of these.
+#[tactic(auto, unfolding(crate::specs::Filler::has_field))]
 fn has(fields: u8, field: u8) -> bool
     requires { 0 < field }
     ensures { result ≡ has_field fields field }
@@ -79,7 +81,7 @@ fn row_of(kind: u8, role: u8) -> usize
     requires { in_list kind ≡ true }
     ensures { (result ≡ row_of kind role) × (result < 16) }
 {
-    if (kind == 0) & (role == 4) {
+    if (kind == Kind::Value as u8) & (role == Role::Edge as u8) {
         return 11;
     }
     if kind < 11 {

@@ -2,13 +2,13 @@
 #![tactic(auto)]
 
 mod apart;
+mod before;
 mod chains;
 mod filler;
 mod judging;
 pub mod refusals;
 mod rules;
 mod runs;
-mod steps;
 mod verdict;
 pub mod vetted;
 
@@ -16,16 +16,14 @@ ghost use Rattle.std.specs.Prelude.{◌≡◌};
 ghost use Rattle.model.specs.Check.{check_reply};
 
 use crate::verdict::{summary_of, table_verdict};
-use model::{CheckReply, Verdict};
+use model::CheckReply;
 
 // Check: number of records, top, columns read by the top and how many; or the first refusal of 1 to 14 with its place.
 // It takes any bytes and any column count.
+#[tactic(auto, unfolding(model::specs::Check::check_reply))]
 pub fn check(table: &[u8], columns: usize) -> CheckReply
     ensures { result ≡ check_reply table.now columns }
 {
-    let verdict = table_verdict(table, columns);
-    match verdict {
-        Verdict::Refused(why) => CheckReply::Refused(why),
-        Verdict::Passed => CheckReply::Accepted(summary_of(table)),
-    }
+    table_verdict(table, columns)?;
+    Ok(summary_of(table))
 }

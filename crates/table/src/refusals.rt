@@ -2,9 +2,10 @@
 ghost use Rattle.std.specs.Prelude.{◌≡◌};
 ghost use Rattle.model.specs.Replies.{listed};
 
-use model::{Place, Refusal};
+use model::Refusal;
 
 // The refusal's number in the table.
+// As it is: no derive numbers variants that have a field, and an arm for each refusal is the specification's own table.
 pub fn number(why: Refusal) -> u32
     ensures { result ≡ (listed why).number }
 {
@@ -31,27 +32,27 @@ pub fn number(why: Refusal) -> u32
 }
 
 // The record that the refusal names: 3 to 14 give one.
-pub fn place(why: Refusal) -> Place
+pub fn place(why: Refusal) -> Option<u8>
     ensures { result ≡ (listed why).place }
 {
     match why {
-        Refusal::Width => Place::Nowhere,
-        Refusal::Length => Place::Nowhere,
-        Refusal::Kind(k) => Place::At(k),
-        Refusal::Filler(k) => Place::At(k),
-        Refusal::Column(k) => Place::At(k),
-        Refusal::Part(k) => Place::At(k),
-        Refusal::Reused(k) => Place::At(k),
-        Refusal::Stray(k) => Place::At(k),
-        Refusal::Crowd(k) => Place::At(k),
-        Refusal::Clash(k) => Place::At(k),
-        Refusal::Loop(k) => Place::At(k),
-        Refusal::Bounds(k) => Place::At(k),
-        Refusal::Apart(k) => Place::At(k),
-        Refusal::Loose(k) => Place::At(k),
-        Refusal::Rows => Place::Nowhere,
-        Refusal::Term => Place::Nowhere,
-        Refusal::Group => Place::Nowhere,
-        Refusal::Short => Place::Nowhere,
+        Refusal::Kind(k)
+        | Refusal::Filler(k)
+        | Refusal::Column(k)
+        | Refusal::Part(k)
+        | Refusal::Reused(k)
+        | Refusal::Stray(k)
+        | Refusal::Crowd(k)
+        | Refusal::Clash(k)
+        | Refusal::Loop(k)
+        | Refusal::Bounds(k)
+        | Refusal::Apart(k)
+        | Refusal::Loose(k) => Some(k),
+        Refusal::Width
+        | Refusal::Length
+        | Refusal::Rows
+        | Refusal::Term
+        | Refusal::Group
+        | Refusal::Short => None,
     }
 }

@@ -6,29 +6,32 @@ ghost use Rattle.model.specs.Check.{clash, closes_cycle};
 ghost use Rattle.laws.specs.Runs.{values_between};
 ghost use Rattle.records.specs.Fields.{value_at};
 ghost use Rattle.terms.specs.Run.{Values};
-ghost use Rattle.table.specs.Rules.{clash_in, goes_on, on_and_back, loop_in};
+ghost use Rattle.table.specs.Rules.{clash_in, goes_on, goes_back, on_and_back, loop_in};
 
+use model::{Kind, Role};
 use records::record::{kind_at, p_at, u_at, u_word, v_at, v_word};
 use terms::vetted::closure::closure;
 
 // 10 CLASH: POS/NEG or POS/POS value standing earlier in its term's run under the other role.
+#[tactic(auto, unfolding(crate::specs::Rules::clash_in))]
 pub fn fails_clash(table: &[u8], j: u8, k: u8) -> bool
     requires { Values table.now j k }
     ensures { result ≡ clash_in table.now j k }
 {
     let kind = kind_at(table, j);
-    if (kind == 7) | (kind == 8) {
+    if (kind == Kind::PosNeg as u8) | (kind == Kind::PosPos as u8) {
         return clashes(table, j, k);
     }
     false
 }
 
 // 11 LOOP: edge that closes a cycle with itself or earlier edges of its term.
+#[tactic(auto, unfolding(crate::specs::Rules::loop_in))]
 pub fn fails_loop(table: &[u8], j: u8, k: u8) -> bool
     requires { Values table.now j k × (k ≤ j + 16) × (k < 128) }
     ensures { result ≡ loop_in table.now j k }
 {
-    if p_at(table, k) != 4 {
+    if p_at(table, k) != Role::Edge as u8 {
         return false;
     }
     closes_cycle(table, j, k)
@@ -39,13 +42,7 @@ fn clashes(table: &[u8], j: u8, k: u8) -> bool
     requires { Values table.now j k }
     ensures { result ≡ any_in (values_between table.now j k) (clash (value_at table.now k)) }
 {
-    let mut found = false;
-    let mut i = j + 1;
-    while i < k {
-        found = clash_with(table, k, i) | found;
-        i += 1;
-    }
-    found
+    (j + 1..k).any(|i| clash_with(table, k, i))
 }
 
 fn clash_with(table: &[u8], k: u8, i: u8) -> bool
@@ -66,38 +63,26 @@ fn closes_cycle(table: &[u8], j: u8, k: u8) -> bool
     u_word(table, k) == v_word(table, k)
 }
 
+// Whether one of the edges between records j and k begins where the edge in record k ends, and one ends where that begins.
 fn goes_on_and_back(table: &[u8], j: u8, k: u8) -> bool
     requires { Values table.now j k }
     ensures { result ≡ on_and_back (values_between table.now j k) (value_at table.now k) }
 {
-    if goes_on(table, j, k, false) {
-        return goes_on(table, j, k, true);
-    }
-    false
+    (j + 1..k).any(|i| goes_on(table, k, i)) && (j + 1..k).any(|i| goes_back(table, k, i))
 }
 
-// Whether one of the edges between records j and k begins where the edge in record k ends; backward, whether one ends where
-// that begins.
-fn goes_on(table: &[u8], j: u8, k: u8, back: bool) -> bool
-    requires { Values table.now j k }
-    ensures { result ≡ any_in (values_between table.now j k) (goes_on back (value_at table.now k)) }
+// Whether edge i begins where edge k ends.
+fn goes_on(table: &[u8], k: u8, i: u8) -> bool
+    ensures { result ≡ goes_on (value_at table.now k) (value_at table.now i) }
 {
-    let mut found = false;
-    let mut i = j + 1;
-    while i < k {
-        found = goes_on_with(table, k, i, back) | found;
-        i += 1;
-    }
-    found
-}
-
-fn goes_on_with(table: &[u8], k: u8, i: u8, back: bool) -> bool
-    ensures { result ≡ goes_on back (value_at table.now k) (value_at table.now i) }
-{
-    if back {
-        return u_at(table, k) == v_at(table, i);
-    }
     v_at(table, k) == u_at(table, i)
+}
+
+// Whether edge i ends where edge k begins.
+fn goes_back(table: &[u8], k: u8, i: u8) -> bool
+    ensures { result ≡ goes_back (value_at table.now k) (value_at table.now i) }
+{
+    u_at(table, k) == v_at(table, i)
 }
 
 // The same, by the closure of these edges.

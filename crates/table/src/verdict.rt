@@ -1,16 +1,16 @@
 // The table's own refusals in order (SPECIFICATION, "What a call refuses"): 1, 2, the records from 0 upward, 14; and
 // what an accepted table is.
-ghost use Rattle.std.specs.Prelude.{◌≡◌, cond, ℕ};
+ghost use Rattle.std.specs.Prelude.{◌≡◌, ℕ};
 ghost use Rattle.model.specs.Replies.{refusal};
 ghost use Rattle.model.specs.Check.{refuse_if, each_below, table_verdict, summary};
-ghost use Rattle.table.specs.Carried.{marked};
 ghost use Rattle.table.specs.Verdict.{loose_by, Counted, records_verdict, Summed};
 
+use crate::before::Before;
 use crate::filler::must_be_zero;
 use crate::judging::judge_record;
 use crate::rules::{fails_length, fails_width};
-use model::{RECORD_BYTES, Refusal, Summary, Verdict};
-use records::parts::{is_term_at, parts_at};
+use model::{CompoundTerm, RECORD_BYTES, Refusal, Summary, Verdict};
+use records::parts::{compound_at, is_term_at};
 use records::values::nearest_term;
 use terms::vetted::columns::{count_columns, masks};
 
@@ -19,10 +19,10 @@ pub fn table_verdict(table: &[u8], columns: usize) -> Verdict
     ensures { result ≡ table_verdict table.now columns }
 {
     if fails_width(columns) {
-        return Verdict::Refused(Refusal::Width);
+        return Err(Refusal::Width);
     }
     if fails_length(table) {
-        return Verdict::Refused(Refusal::Length);
+        return Err(Refusal::Length);
     }
     let n = (table.len() / RECORD_BYTES) as u8;
     judge_records(table, columns as u8, n)
@@ -38,20 +38,30 @@ fn judge_records(table: &[u8], columns: u8, n: u8) -> Verdict
     let mut terms = [false; 256];
     let mut used = [false; 256];
     let mut near = 0u8;
-    let mut k = 0u8;
-    while k < n {
-        let v = judge_record(table, columns, k, near, &terms, &used, &zero);
-        if let Verdict::Refused(_) = v {
-            return v;
+    for k in 0..n {
+        judge_record(
+            &Before {
+                table,
+                k,
+                near,
+                terms: &terms,
+                used: &used,
+                zero: &zero,
+            },
+            columns,
+        )?;
+        match compound_at(table, k) {
+            Some(CompoundTerm::Joined(_, p, q)) => {
+                used[p as usize] = true;
+                used[q as usize] = true;
+            }
+            Some(CompoundTerm::Dual(p)) => used[p as usize] = true,
+            None => {}
         }
-        let s = parts_at(table, k);
-        mark(1 <= s.count, s.left, &mut used);
-        mark(2 <= s.count, s.right, &mut used);
-        let term = is_term_at(table, k);
-        let at = k as usize;
-        terms[at] = term;
-        near = nearer(term, k, near);
-        k += 1;
+        if is_term_at(table, k) {
+            terms[k as usize] = true;
+            near = k;
+        }
     }
     judge_loose(&terms, &used, n, near)
 }
@@ -60,32 +70,13 @@ fn judge_records(table: &[u8], columns: u8, n: u8) -> Verdict
 fn judge_loose(terms: &[bool; 256], used: &[bool; 256], n: u8, near: u8) -> Verdict
     ensures { result ≡ each_below n (λ (k : ℕ). refuse_if (loose_by terms.now used.now near k) (refusal 14 k)) }
 {
-    let mut k = 0u8;
-    while k < n {
+    for k in 0..n {
         let at = k as usize;
         if terms[at] & (k != near) & !used[at] {
-            return Verdict::Refused(Refusal::Loose(k));
+            return Err(Refusal::Loose(k));
         }
-        k += 1;
     }
-    Verdict::Passed
-}
-
-// A part is used, where there is one.
-fn mark(there: bool, part: u8, used: &mut [bool; 256])
-    ensures { used.new ≡ marked there part used.old }
-{
-    if there {
-        let at = part as usize;
-        used[at] = true;
-    }
-}
-
-// The nearest term after record k.
-fn nearer(term: bool, k: u8, near: u8) -> u8
-    ensures { result ≡ cond term k near }
-{
-    if term { k } else { near }
+    Ok(())
 }
 
 // Number of records, top, columns read by the top and how many, of an accepted table.

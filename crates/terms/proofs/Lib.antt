@@ -1,8 +1,7 @@
+pub mod AnyBelow
 pub mod Cells
 pub mod Masks
 pub mod MaskLoop
-pub mod Wide
-pub mod Far
 pub mod Ends
 pub mod RunEnd
 pub mod Rows

@@ -2,10 +2,8 @@
 use mathlib.Core.Path.{◌≡◌, sym, subst}
 use mathlib.Core.Logic.{⊎_elim}
 use mathlib.Core.Bool.{Bool, true, false, ◌&&◌}
-use Prim.Native.Nat.{ℕ, zero, suc, ◌*◌, ◌%◌, ◌^◌, ◌<◌, ◌≤◌}
-use native.Mathlib.Omega.{arith}
-use native.Mathlib.Nat.{eq-or-lt_of_le, le_of_suc-le-suc, not-suc-le-zero, mod-eq_of_lt}
-use lib.Pow.{pow_mono}
+use Prim.Native.Nat.{ℕ, zero, suc, ◌<◌}
+use native.Mathlib.Nat.{eq-or-lt_of_le, le_of_suc-le-suc, not-suc-le-zero}
 use lib.Count.{ones}
 use lib.Dec.{T, eqb, eqb→eq}
 use Rattle.model.specs.Search.{count_below}
@@ -38,10 +36,3 @@ count-test m = eqb (ones m) (count_below 8 (bit m))
 pub ones-count : (m : ℕ) → m < 256 → ones m ≡ count_below 8 (bit m)
 unfolding ones count-test all_below count_below bit
 ones-count m h = eqb→eq (ones m) (count_below 8 (bit m)) (all-at count-test 256 tt m h)
-
--- One bit below bit 8 is a byte.
-pub power_below : (j : ℕ) → j < 8 → 1 * 2 ^ j % 256 ≡ 2 ^ j
-power_below j h =
-    let p : 2 ^ j ≤ 2 ^ 7 = pow_mono (let x : j ≤ 7 = omega arith in x) in
-    let q : 1 * 2 ^ j ≡ 2 ^ j = omega arith in
-    rw q (mod-eq_of_lt (omega arith))

@@ -128,16 +128,18 @@ module _ (table : List ℕ) (n : ℕ) where
         ends = f.ends;
       }
 
-  -- One record down.
-  pub first-down : (k next : ℕ) → k < n → FirstFrom table (k + 1) n next
-      → FirstFrom table k n (cond (is_term (record_at table k)) k next)
-  first-down k next l f =
-      ⊎_elim
-      (λ t. rw t (record { least = omega arith; most = omega (arith, l); before = λ i a b. absurd (omega (arith, a, b)); ends = λ h. t }))
-      (λ t. rw t (record {
+  -- One record down, which is a term,
+  pub first-term : (k : ℕ) → k < n → is_term (record_at table k) ≡ true → FirstFrom table k n k
+  first-term k l t =
+      record { least = omega arith; most = omega (arith, l); before = λ i a b. absurd (omega (arith, a, b)); ends = λ h. t }
+
+  -- or is none.
+  pub first-value : (k next : ℕ) → FirstFrom table (k + 1) n next → is_term (record_at table k) ≡ false
+      → FirstFrom table k n next
+  first-value k next f t =
+      record {
         least = omega (arith, f.least);
         most = f.most;
         before = λ i a b. ⊎_elim (λ q. f.before i (omega (arith, q)) b) (λ q. rw (← q) t) (lt-suc-cases k i (omega (arith, a)));
         ends = f.ends;
-      }))
-      (on-or-off (is_term (record_at table k)))
+      }

@@ -7,15 +7,13 @@ ghost use Rattle.model.specs.Better.{distance, distance_between};
 pub fn distance(wish: i32, x: i32) -> i64
     ensures { result ≡ pos (distance wish x) }
 {
-    let w = wish as i64;
-    let v = x as i64;
-    if v < w {
-        return w - v;
-    }
-    v - w
+    let w = i64::from(wish);
+    let v = i64::from(x);
+    (v - w).abs()
 }
 
 // or to the nearer bound and 0 inside.
+#[tactic(auto, unfolding(model::specs::Better::distance_between))]
 pub fn distance_between(low: i32, up: i32, x: i32) -> i64
     ensures { result ≡ pos (distance_between low up x) }
 {

@@ -1,7 +1,6 @@
 // Inner functions that other crates call. They are no public calls: each asks what was shown or prepared before.
-pub mod classes;
 pub mod closure;
 pub mod columns;
 pub mod places;
 pub mod prepared;
-pub mod values;
+pub mod run;

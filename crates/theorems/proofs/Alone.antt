@@ -1,11 +1,11 @@
 -- A part alone (SPECIFICATION, "The third promise, word by word": "the part's own where a part alone keeps"): its
 -- record answers alike in the table, in the two placings and in the table that ranks the parts equally. Assumes
 -- nothing.
-use Rattle.std.specs.Prelude.{◌≡◌, refl, ◌⊎◌, true, ℤ}
+use Rattle.std.specs.Prelude.{◌≡◌, refl, ◌⊎◌, true, ℤ, Ok}
 use Rattle.std.proofs.Common.{sym, ◌∙◌, ap, ⊎_elim, arith}
 use mathlib.Core.List.{List}
 use Prim.Native.Nat.{ℕ, ◌<◌}
-use Rattle.model.specs.declared.{Pair.Pair, Verdict.Verdict}
+use Rattle.model.specs.declared.Pair.{Pair}
 use Rattle.model.specs.Record.{record_count, record_at, p_at, q_at, is_term}
 use Rattle.model.specs.Term.{Term}
 use Rattle.model.specs.Query.{query_verdict, query_reply, query_buffer}
@@ -34,12 +34,12 @@ module _ (table : List ℕ) (columns : ℕ) (rows : List ℤ) (k group : ℕ) (a
       placing : List ℕ
       placing = rewritten table k kind p q
 
-      here : query_verdict table columns rows part group before ≡ Verdict.Passed
+      here : query_verdict table columns rows part group before ≡ Ok tt
       here =
           query-passes table columns rows part group
           (of-record table columns rows k group asked table asked.is_accepted part (omega (arith, inside)) t) before long
 
-      there : query_verdict (rewritten table k kind p q) columns rows part group before ≡ Verdict.Passed
+      there : query_verdict (rewritten table k kind p q) columns rows part group before ≡ Ok tt
       there =
           query-passes placing columns rows part group
           (of-record table columns rows k group asked placing ((accepted-true placing columns).1 w.is_accepted) part

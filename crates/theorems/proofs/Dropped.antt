@@ -1,8 +1,7 @@
 -- What Query takes, in the words of the third promise; "beaten" as a test; and every dropped row is beaten by a kept row
 -- of the set. Assumes nothing.
 -- What a reader or a contract cites stands in specs/Dropped.
-use Rattle.std.specs.Prelude.{◌≡◌, refl, true, false, List, ℕ, ◌<◌, ℤ, get_or}
-use Rattle.model.specs.declared.{Verdict.Verdict}
+use Rattle.std.specs.Prelude.{◌≡◌, refl, true, false, List, ℕ, ◌<◌, ℤ, get_or, Ok}
 use Rattle.model.specs.Term.{term_at}
 use Rattle.model.specs.Query.{LowestKept, row_count, beats_in, query_verdict, query_buffer}
 use Rattle.model.specs.Demand.{keeps}
@@ -25,7 +24,7 @@ module _ (table : List ℕ) (columns : ℕ) (rows : List ℤ) (term group : ℕ)
       }
 
   -- and refuses nothing.
-  pub query-passes : query_verdict table columns rows term group before ≡ Verdict.Passed
+  pub query-passes : query_verdict table columns rows term group before ≡ Ok tt
   query-passes = taken-from table columns rows term group before query-takes
 
   -- Every dropped row is beaten by a kept row of the set, the one that its entry names.

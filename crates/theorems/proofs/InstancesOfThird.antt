@@ -1,10 +1,11 @@
 -- The third signed sentence on records of kind 16, 17 and 18, with every hypothesis computed, each clause used on rows
 -- whose answers are computed: none of them is empty. Assumes nothing.
 -- What a reader or a contract cites stands in specs/InstancesOfThird.
-use Rattle.std.specs.Prelude.{◌≡◌, refl, true, false, List, [], ◌∷◌, ◌++◌, ℕ, ℤ, pos, get_or}
+use Rattle.std.specs.Prelude.{◌≡◌, refl, true, false, List, [], ◌∷◌, ◌++◌, ℕ, ℤ, pos, get_or, Ok}
 use Rattle.std.proofs.Common.{sym, ◌∙◌, subst, inl, inr, ⊎_elim, arith}
 use Rattle.std.specs.Int.Bits.{bit_or}
-use Rattle.model.specs.declared.{Outcome.Outcome, CompareReply.CompareReply, QueryReply.QueryReply}
+use Rattle.model.specs.Words.{QueryReply}
+use Rattle.model.specs.declared.Outcome.{Outcome}
 use Rattle.model.specs.Record.{record_count, record_at, kind_at, p_at, q_at, is_term}
 use Rattle.model.specs.Term.{term_at, columns_of}
 use Rattle.model.specs.Better.{Row, better}
@@ -74,16 +75,16 @@ prior-transitive = prior-sentence.transitive x y z x-y-z.0 x-y-z.1
 pub prior-irreflexive : better (term_at P 2) z x ≡ true → ⊥
 prior-irreflexive b = prior-sentence.irreflexive x (prior-sentence.transitive x z x prior-transitive b)
 
-pub prior-compare-first : compare_reply P 3 2 z x ≡ CompareReply.Compared Outcome.First
+pub prior-compare-first : compare_reply P 3 2 z x ≡ Ok Outcome.First
 prior-compare-first = (prior-sentence.compare_first z x refl refl).1 prior-transitive
 
-pub prior-compare-turned : compare_reply P 3 2 x z ≡ CompareReply.Compared Outcome.Second
+pub prior-compare-turned : compare_reply P 3 2 x z ≡ Ok Outcome.Second
 prior-compare-turned = prior-sentence.compare_turned z x refl refl Outcome.First prior-compare-first
 
-pub prior-compare-same : compare_reply P 3 2 x x ≡ CompareReply.Compared Outcome.Same
+pub prior-compare-same : compare_reply P 3 2 x x ≡ Ok Outcome.Same
 prior-compare-same = prior-sentence.compare_same x refl
 
-pub prior-compare-chained : compare_reply P 3 2 z x ≡ CompareReply.Compared Outcome.First
+pub prior-compare-chained : compare_reply P 3 2 z x ≡ Ok Outcome.First
 prior-compare-chained =
     prior-sentence.compare_chained z y x refl refl refl ((prior-sentence.compare_first z y refl refl).1 x-y-z.1)
     ((prior-sentence.compare_first y x refl refl).1 x-y-z.0)
@@ -141,11 +142,11 @@ prior-alone =
     ((prior-two.part_alone (p_at P 2) 0 (inl refl) group-fits).2 (answers P (p_at P 2) 0)).0 (answers-wrote P (p_at P 2) 0)
 
 -- Two rows are kept, and no part is refused.
-two-kept : query_reply P 3 rows_v 2 0 seven ≡ QueryReply.Kept 2
+two-kept : query_reply P 3 rows_v 2 0 seven ≡ Ok 2
 unfolding opened
 two-kept = refl
 
-same_total : (m n : ℕ) → QueryReply.Kept m ≡ QueryReply.Kept n → m ≡ n
+same_total : (m n : ℕ) → ◌≡◌ {A = QueryReply} (Ok m) (Ok n) → m ≡ n
 same_total m n e = cc
 
 pub prior-answers : ((query-refuses-none P 3 rows_v 2 0 P-asked).0 seven long).0 ≡ 2

@@ -1,9 +1,8 @@
 -- Rows left out, and two catalogues, on bytes (SPECIFICATION, "Leaving out rows"). Assumes nothing.
 -- What a reader or a contract cites stands in specs/Leaving.
-use Rattle.std.specs.Prelude.{◌≡◌, refl, Bool, true, List, ℕ, ◌*◌, ◌<◌, ◌≤◌, ℤ, length, get_or}
+use Rattle.std.specs.Prelude.{◌≡◌, refl, Bool, true, List, ℕ, ◌*◌, ◌<◌, ◌≤◌, ℤ, length, get_or, Ok}
 use Rattle.std.proofs.Math.Path.{sym, ap}
 use Rattle.std.proofs.Common.{◌∙◌, arith}
-use Rattle.model.specs.declared.{QueryReply.QueryReply}
 use Rattle.model.specs.Search.{count_below}
 use Rattle.model.specs.Term.{term_at}
 use Rattle.model.specs.Better.{Row}
@@ -181,7 +180,7 @@ module _ (table : List ℕ) (columns : ℕ) (rows : List ℤ) (term group : ℕ)
   unfolding left_rows
   same-reply =
       query.passed-reply table columns left term group b after
-      ∙ ap QueryReply.Kept
+      ∙ ap Ok
       (rw left-count (ap (λ (r : Rel ℕ). kept_count m r) beats-left)
       ∙ count-again worse strict columns rows n (omega (arith, whole)) stays all_stay
       ∙ sym (ap (λ (r : Rel ℕ). kept_count n r) beats-rows))

@@ -1,9 +1,9 @@
 -- The theorems of src/lib.rt and of the second signed sentence (src/signed.rt) that have hypotheses, on table T1 and rows
 -- V of the specification ("Worked cases"), with every hypothesis computed: none of them is empty. Assumes nothing.
-use Rattle.std.specs.Prelude.{◌≡◌, refl, ◌↔◌, true, false, not, List, [], ◌∷◌, ℕ, ◌<◌, ◌≤◌, eqb, ℤ, pos, length, get_or}
+use Rattle.std.specs.Prelude.{◌≡◌, refl, ◌↔◌, true, false, not, List, [], ◌∷◌, ℕ, ◌<◌, ◌≤◌, eqb, ℤ, pos, length, get_or, Ok, Err}
 use Rattle.std.proofs.Common.{arith}
 use Rattle.std.proofs.lemmas.Bool.{not-false}
-use Rattle.model.specs.declared.{Refusal.Refusal, Verdict.Verdict, QueryReply.QueryReply}
+use Rattle.model.specs.declared.Refusal.{Refusal}
 use Rattle.model.specs.Search.{any_below, count_below}
 use Rattle.model.specs.Record.{record_count, record_at, is_term}
 use Rattle.model.specs.Term.{Term, term_at, columns_of}
@@ -74,7 +74,7 @@ long = omega (arith, seven-rows)
 pub accepted-terms : AcceptedTerm T1 3 4
 accepted-terms = accepted-term T1 3 ((accepted-true T1 3).0 T1-accepted) 4 (omega (arith, five-records)) terms.1
 
-passed : query_verdict T1 3 rows_v 4 0 seven ≡ Verdict.Passed
+passed : query_verdict T1 3 rows_v 4 0 seven ≡ Ok tt
 unfolding opened
 passed = refl
 
@@ -92,13 +92,13 @@ drops-name-lowest = answered.drops-name-lowest T1 3 rows_v 4 0 seven passed 1 0 
 
 pub gives-and-writes :
     (query_reply T1 3 rows_v 4 0 seven
-    ≡ QueryReply.Kept (count_below (row_count 3 rows_v) (λ i. eqb (get_or (query_buffer T1 3 rows_v 4 0 seven) i 0) i)))
+    ≡ Ok (count_below (row_count 3 rows_v) (λ i. eqb (get_or (query_buffer T1 3 rows_v 4 0 seven) i 0) i)))
     × (length (query_buffer T1 3 rows_v 4 0 seven) ≡ length seven)
     × ((i : ℕ) → row_count 3 rows_v ≤ i → get_or (query_buffer T1 3 rows_v 4 0 seven) i 0 ≡ get_or seven i 0)
 gives-and-writes = answered.gives-and-writes T1 3 rows_v 4 0 seven passed 0
 
 -- A buffer for one row is SHORT.
-short : query_verdict T1 3 rows_v 4 0 (0 ∷ []) ≡ Verdict.Refused Refusal.Short
+short : query_verdict T1 3 rows_v 4 0 (0 ∷ []) ≡ Err Refusal.Short
 unfolding opened
 short = refl
 

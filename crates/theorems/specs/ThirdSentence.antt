@@ -2,9 +2,9 @@
 -- third promise, word by word"): its clauses in their order, of the buffers that Query wrote. Its words are those of
 -- specs/Asked. That it holds of whatever Query takes is `third_sentence` of src/signed.rt, and that no query is refused,
 -- `query_refuses_none`.
-use Rattle.std.specs.Prelude.{◌≡◌, ◌⊎◌, ◌↔◌, true, false, List, ℕ, suc, ◌<◌, ℤ, length, get_or}
+use Rattle.std.specs.Prelude.{◌≡◌, ◌⊎◌, ◌↔◌, true, false, List, ℕ, suc, ◌<◌, ℤ, length, get_or, Ok}
 use Rattle.std.specs.Int.Bits.{bit_or}
-use Rattle.model.specs.declared.{Outcome.Outcome, CompareReply.CompareReply, QueryReply.QueryReply}
+use Rattle.model.specs.declared.Outcome.{Outcome}
 use Rattle.model.specs.Record.{p_at, q_at}
 use Rattle.model.specs.Term.{term_at, columns_of}
 use Rattle.model.specs.Better.{Row, better}
@@ -78,24 +78,24 @@ pub record ThirdSentence (table : List ℕ) (columns : ℕ) (rows : List ℤ) (t
       → better (term_at table term) x z ≡ true
   -- comparing two rows gives replies that say so." "For any rows x, y, z of the count's length": no call is refused,
   pub compare_answers : (x y : Row) → length x ≡ columns → length y ≡ columns
-      → (o : Outcome) × (compare_reply table columns term x y ≡ CompareReply.Compared o)
+      → (o : Outcome) × (compare_reply table columns term x y ≡ Ok o)
   -- and a reply of first better is that the first is better.
   pub compare_first : (x y : Row) → length x ≡ columns → length y ≡ columns
-      → (compare_reply table columns term x y ≡ CompareReply.Compared Outcome.First)
+      → (compare_reply table columns term x y ≡ Ok Outcome.First)
       ↔ (better (term_at table term) y x ≡ true)
   -- "x against x gives same."
   pub compare_same : (x : Row) → length x ≡ columns
-      → compare_reply table columns term x x ≡ CompareReply.Compared Outcome.Same
+      → compare_reply table columns term x x ≡ Ok Outcome.Same
   -- "Where x, y gives first better, y, x gives second better, and the other way about; same and unranked don't change
   -- when the rows change places": `turned` of specs/Outcome of `laws`.
   pub compare_turned : (x y : Row) → length x ≡ columns → length y ≡ columns → (o : Outcome)
-      → compare_reply table columns term x y ≡ CompareReply.Compared o
-      → compare_reply table columns term y x ≡ CompareReply.Compared (turned o)
+      → compare_reply table columns term x y ≡ Ok o
+      → compare_reply table columns term y x ≡ Ok (turned o)
   -- "Where x, y and y, z give first better, so does x, z."
   pub compare_chained : (x y z : Row) → length x ≡ columns → length y ≡ columns → length z ≡ columns
-      → compare_reply table columns term x y ≡ CompareReply.Compared Outcome.First
-      → compare_reply table columns term y z ≡ CompareReply.Compared Outcome.First
-      → compare_reply table columns term x z ≡ CompareReply.Compared Outcome.First
+      → compare_reply table columns term x y ≡ Ok Outcome.First
+      → compare_reply table columns term y z ≡ Ok Outcome.First
+      → compare_reply table columns term x z ≡ Ok Outcome.First
   -- "Of two parts, one placed before the other keeps a row exactly when .. The same two, ranking equally, keep a row
   -- exactly when .." "Two parts: those of a record of kind 16, 17 or 18."
   pub of_two_parts : TwoParts table term → OfTwoParts table columns rows term group
@@ -108,7 +108,7 @@ pub record ThirdSentence (table : List ℕ) (columns : ℕ) (rows : List ℤ) (t
 abbrev pub Answers : List ℕ → ℕ → List ℤ → ℕ → ℕ → Type 0
 Answers table columns rows term group =
     (before : List ℕ) → Long columns rows before
-    → (total : ℕ) × (query_reply table columns rows term group before ≡ QueryReply.Kept total)
+    → (total : ℕ) × (query_reply table columns rows term group before ≡ Ok total)
 
 -- None of the queries on two parts is refused: record k in the three tables, each part's own record, and each part with
 -- the bits of the other's columns set in the group byte too.

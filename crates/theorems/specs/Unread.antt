@@ -1,8 +1,8 @@
 -- Columns that neither the term nor the group reads have no bearing on the answers (SPECIFICATION, "The calls"): of any
 -- bytes. Assumes nothing.
-use Rattle.std.specs.Prelude.{◌≡◌, List, ℕ, ◌<◌, ℤ, length}
+use Rattle.std.specs.Prelude.{◌≡◌, List, ℕ, ◌<◌, ℤ, length, Ok, Err}
 use Rattle.std.proofs.Math.Path.{refl}
-use Rattle.model.specs.declared.{Verdict.Verdict}
+use Rattle.model.specs.Words.{Verdict}
 use Rattle.model.specs.Term.{term_at, columns_of}
 use Rattle.model.specs.Better.{EqualIn}
 use Rattle.model.specs.Query.{answer, row_count, row_at, beats_in, fails_rows, fails_short, query_verdict, query_reply, query_buffer}
@@ -31,8 +31,8 @@ module _ (table : List ℕ) (columns : ℕ) (rows rows' : List ℤ) (term group 
 
   by-verdict : (v : Verdict) → query_verdict table columns rows term group before ≡ v → Same
   unfolding query_reply query_buffer
-  by-verdict (Verdict.Refused why) e = rw (verdict, e) (refl, refl)
-  by-verdict Verdict.Passed e =
+  by-verdict (Err why) e = rw (verdict, e) (refl, refl)
+  by-verdict (Ok u) e =
       let t = taken-gives table columns rows term group before e in
       let s = taken-sound table columns term t.of_term in
       let n = row_count columns rows in

@@ -5,8 +5,8 @@
 #![tactic(auto)]
 
 ghost use Rattle.std.specs.Prelude.{◌≡◌, ◌↔◌, Bool, true, List, ℕ, ◌<◌, ℤ, length};
-ghost use Rattle.model.specs.declared.{Value.Value, Refusal.Refusal, CheckReply.CheckReply};
-ghost use Rattle.model.specs.declared.{CompareReply.CompareReply, QueryReply.QueryReply, PerfectReply.PerfectReply};
+ghost use Rattle.model.specs.Words.{CheckReply, CompareReply, QueryReply, PerfectReply};
+ghost use Rattle.model.specs.declared.{Value.Value, Refusal.Refusal};
 ghost use Rattle.model.specs.Bytes.{Value32};
 ghost use Rattle.model.specs.Record.{record_count, record_at, kind_at, p_at, q_at, is_term};
 ghost use Rattle.model.specs.Term.{Term, term_at, columns_of};

@@ -1,8 +1,8 @@
 // The parts of the third signed sentence as theorems with names of their own; `signed::third_sentence` joins them.
 // "Keeps" is here the test `keeps`, which reads `query_buffer`, what both engines write. a, b and c are answer buffers.
-ghost use Rattle.std.specs.Prelude.{◌≡◌, ◌⊎◌, ◌↔◌, true, false, ◌&&◌, List, ℕ, ◌<◌, ℤ, length, get_or};
+ghost use Rattle.std.specs.Prelude.{◌≡◌, ◌⊎◌, ◌↔◌, true, false, ◌&&◌, List, ℕ, ◌<◌, ℤ, length, get_or, Ok};
 ghost use Rattle.std.specs.Int.Bits.{bit_or};
-ghost use Rattle.model.specs.declared.{Outcome.Outcome, CompareReply.CompareReply};
+ghost use Rattle.model.specs.declared.Outcome.{Outcome};
 ghost use Rattle.model.specs.Record.{p_at, q_at};
 ghost use Rattle.model.specs.Term.{term_at, columns_of};
 ghost use Rattle.model.specs.Better.{Row, better};
@@ -35,7 +35,7 @@ pub fn transitive()
 // "x against x gives same."
 pub fn compare_same()
     ensures { (table : List ℕ) (columns term : ℕ) → TermRecord table columns term → (x : Row) → length x ≡ columns
-        → compare_reply table columns term x x ≡ CompareReply.Compared Outcome.Same }
+        → compare_reply table columns term x x ≡ Ok Outcome.Same }
 {}
 
 // "Where x, y gives first better, y, x gives second better, and the other way about; same and unranked don't change when
@@ -43,24 +43,24 @@ pub fn compare_same()
 pub fn compare_turned()
     ensures { (table : List ℕ) (columns term : ℕ) → TermRecord table columns term → (x y : Row)
         → length x ≡ columns → length y ≡ columns → (o : Outcome)
-        → compare_reply table columns term x y ≡ CompareReply.Compared o
-        → compare_reply table columns term y x ≡ CompareReply.Compared (turned o) }
+        → compare_reply table columns term x y ≡ Ok o
+        → compare_reply table columns term y x ≡ Ok (turned o) }
 {}
 
 // "Where x, y and y, z give first better, so does x, z."
 pub fn compare_chained()
     ensures { (table : List ℕ) (columns term : ℕ) → TermRecord table columns term → (x y z : Row)
         → length x ≡ columns → length y ≡ columns → length z ≡ columns
-        → compare_reply table columns term x y ≡ CompareReply.Compared Outcome.First
-        → compare_reply table columns term y z ≡ CompareReply.Compared Outcome.First
-        → compare_reply table columns term x z ≡ CompareReply.Compared Outcome.First }
+        → compare_reply table columns term x y ≡ Ok Outcome.First
+        → compare_reply table columns term y z ≡ Ok Outcome.First
+        → compare_reply table columns term x z ≡ Ok Outcome.First }
 {}
 
 // A reply of first better is that the first is better.
 pub fn compare_first()
     ensures { (table : List ℕ) (columns term : ℕ) → TermRecord table columns term → (x y : Row)
         → length x ≡ columns → length y ≡ columns
-        → (compare_reply table columns term x y ≡ CompareReply.Compared Outcome.First)
+        → (compare_reply table columns term x y ≡ Ok Outcome.First)
         ↔ (better (term_at table term) y x ≡ true) }
 {}
 
@@ -68,7 +68,7 @@ pub fn compare_first()
 pub fn compare_refuses_none()
     ensures { (table : List ℕ) (columns term : ℕ) → TermRecord table columns term → (x y : Row)
         → length x ≡ columns → length y ≡ columns
-        → (o : Outcome) × (compare_reply table columns term x y ≡ CompareReply.Compared o) }
+        → (o : Outcome) × (compare_reply table columns term x y ≡ Ok o) }
 {}
 
 // ---- two parts: a record of kind 16, 17 or 18, its two placings, and ranking equally

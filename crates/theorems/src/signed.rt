@@ -2,8 +2,8 @@
 // ("The calls", "The third promise, word by word"), for whatever table, term, rows and group byte Query takes. The
 // theorems are about the definitions that the calls' contracts cite (`query_buffer` is what both engines write); the
 // crate `demands` says it of the calls.
-ghost use Rattle.std.specs.Prelude.{◌≡◌, ◌⊎◌, ◌↔◌, true, false, List, ℕ, ◌<◌, ◌≤◌, eqb, ℤ, length, get_or};
-ghost use Rattle.model.specs.declared.{Refusal.Refusal, Verdict.Verdict, QueryReply.QueryReply};
+ghost use Rattle.std.specs.Prelude.{◌≡◌, ◌⊎◌, ◌↔◌, true, false, List, ℕ, ◌<◌, ◌≤◌, eqb, ℤ, length, get_or, Ok, Err};
+ghost use Rattle.model.specs.declared.Refusal.{Refusal};
 ghost use Rattle.model.specs.Search.{count_below};
 ghost use Rattle.model.specs.Term.{term_at};
 ghost use Rattle.model.specs.Query.{Unbeaten, LowestKept, row_count, beats_in};
@@ -19,14 +19,14 @@ ghost use Rattle.theorems.specs.ThirdSentence.{Wrote, Keeps, ThirdSentence, Answ
 // the buffer fit.
 pub fn query_takes()
     ensures { (table : List ℕ) (columns : ℕ) (rows : List ℤ) (term group : ℕ) (before : List ℕ)
-        → (query_verdict table columns rows term group before ≡ Verdict.Passed)
+        → (query_verdict table columns rows term group before ≡ Ok tt)
         ↔ Taken table columns rows term group before }
 {}
 
 // "A row is kept when no row of the set is better, and only then."
 pub fn keeps_is_unbeaten()
     ensures { (table : List ℕ) (columns : ℕ) (rows : List ℤ) (k group : ℕ) (before : List ℕ)
-        → query_verdict table columns rows k group before ≡ Verdict.Passed → (i : ℕ) → i < row_count columns rows
+        → query_verdict table columns rows k group before ≡ Ok tt → (i : ℕ) → i < row_count columns rows
         → (keeps table columns rows k group before i ≡ true)
         ↔ Unbeaten (row_count columns rows) (beats_in (term_at table k) columns rows group) i }
 {}
@@ -34,7 +34,7 @@ pub fn keeps_is_unbeaten()
 // "Every dropped row names the lowest-numbered kept row that is better."
 pub fn drops_name_lowest()
     ensures { (table : List ℕ) (columns : ℕ) (rows : List ℤ) (k group : ℕ) (before : List ℕ)
-        → query_verdict table columns rows k group before ≡ Verdict.Passed
+        → query_verdict table columns rows k group before ≡ Ok tt
         → (i d : ℕ) → i < row_count columns rows → keeps table columns rows k group before i ≡ false
         → LowestKept (row_count columns rows) (beats_in (term_at table k) columns rows group) i
         (get_or (query_buffer table columns rows k group before) i d) }
@@ -44,9 +44,9 @@ pub fn drops_name_lowest()
 // contents."
 pub fn gives_and_writes()
     ensures { (table : List ℕ) (columns : ℕ) (rows : List ℤ) (k group : ℕ) (before : List ℕ)
-        → query_verdict table columns rows k group before ≡ Verdict.Passed → (d : ℕ)
+        → query_verdict table columns rows k group before ≡ Ok tt → (d : ℕ)
         → (query_reply table columns rows k group before
-        ≡ QueryReply.Kept (count_below (row_count columns rows)
+        ≡ Ok (count_below (row_count columns rows)
         (λ i. eqb (get_or (query_buffer table columns rows k group before) i d) i)))
         × (length (query_buffer table columns rows k group before) ≡ length before)
         × ((i : ℕ) → row_count columns rows ≤ i
@@ -56,7 +56,7 @@ pub fn gives_and_writes()
 // "No refusal writes anything."
 pub fn refusal_writes_nothing()
     ensures { (table : List ℕ) (columns : ℕ) (rows : List ℤ) (term group : ℕ) (before : List ℕ) (why : Refusal)
-        → query_verdict table columns rows term group before ≡ Verdict.Refused why
+        → query_verdict table columns rows term group before ≡ Err why
         → query_buffer table columns rows term group before ≡ before }
 {}
 

@@ -1,71 +1,59 @@
-// The codes of row i against the rows of block b under the asked term, from those under each record beneath it, upward. Each
-// function asks what was prepared before.
-ghost use Rattle.std.specs.Prelude.{◌+◌, ◌*◌, ◌<◌, ◌≤◌, length};
-ghost use Rattle.blocks.specs.Ready.{Ready};
+// The codes of row i against the rows of block b under the asked term, from those under each record beneath it, upward.
+ghost use Rattle.std.specs.Prelude.{◌+◌, ◌*◌, ◌<◌, ◌≤◌, length, get_or};
+ghost use Rattle.plan.specs.declared.vetted.exit_masks.Exit.TheVariants.{Nothing};
 ghost use Rattle.blocks.specs.Blocks.{RecordTold, AskedCoded};
 
-use crate::by_record::record_codes;
+use crate::vetted::prepared::Blocks;
 use lanes::vetted::known::{all_known, put_known, start_known, tell_lanes};
+use plan::vetted::exit_masks::Exit;
 
-// The asked term's codes in the lanes that are lit, from what the records up to it tell.
-pub fn block_codes(
-    table: &[u8],
-    numbers: &[i32; 256],
-    ends: &[u8; 128],
-    reach: &[[bool; 32]],
-    marks: &[bool; 128],
-    exits: &[u8; 128],
-    term: u8,
-    columns: usize,
-    rows: &[i32],
-    n: usize,
-    stride: usize,
-    ranks: &[i32],
-    values: &[i32],
-    i: usize,
-    b: usize,
-    live: &[u8],
-    codes: &mut [u8],
-)
-    requires { Ready table.now numbers.now ends.now reach.now marks.now exits.now term columns rows.now n stride ranks.now values.now × (i < n) × (b * 64 < n) × (64 ≤ length live.now) × (8192 ≤ length codes.old) }
-    ensures { AskedCoded table.now term columns rows.now n i b live.now codes.new }
-{
-    let mut known = [0u8; 64];
-    start_known(live, &mut known);
-    let mut k = 0u8;
-    while k <= term {
-        let at = k as usize;
-        if marks[at] {
-            record_codes(
-                table, numbers, ends, reach, marks, exits, term, columns, rows, n, stride, ranks,
-                values, i, b, k, codes,
-            );
-            if tell(exits[at], codes, k, term, &mut known) {
-                put_known(&known, codes, (term as usize) * 64);
-                return;
+impl Blocks<'_> {
+    // The asked term's codes in the lanes that are lit, from what the records up to it tell.
+    pub fn block_codes(&self, i: usize, b: usize, live: &[u8], codes: &mut [u8])
+        requires row { i < self.now.rows.n }
+        requires block { b * 64 < self.now.rows.n }
+        requires lanes { 64 ≤ length live.now }
+        requires room { 8192 ≤ length codes.old }
+        ensures { AskedCoded self.now.of.table.now self.now.term self.now.rows.columns self.now.rows.cells.now self.now.rows.n
+            i b live.now codes.new }
+    {
+        let mut known = [0u8; 64];
+        start_known(live, &mut known);
+        let mut k = 0u8;
+        // As it is: the next record is ends[k], which no range gives.
+        while k <= self.term {
+            let at = k as usize;
+            if self.marks[at] {
+                self.record_codes(i, b, k, codes);
+                if self.tell(k, codes, &mut known) {
+                    break;
+                }
             }
+            k = self.ends[at];
         }
-        k = ends[at];
+        put_known(&known, codes, (self.term as usize) * 64);
     }
-    put_known(&known, codes, (term as usize) * 64);
-}
 
-// Record k, of mask m, tells. Says whether nothing can be added in any lane; it looks only where that is likely to pay.
-fn tell(m: u8, codes: &[u8], k: u8, term: u8, known: &mut [u8]) -> bool
-    requires { (m < 8) × (k < 128) × (k * 64 + 64 ≤ length codes.now) × (64 ≤ length known.old) }
-    ensures { RecordTold m codes.now k known.old known.new result }
-{
-    if m == 0 {
-        return false;
+    // Record k tells. Says whether nothing can be added in any lane; it looks only where that is likely to pay.
+    #[tactic(auto, unfolding(plan::specs::Exits::mask_at))]
+    fn tell(&self, k: u8, codes: &[u8], known: &mut [u8]) -> bool
+        requires below { k ≤ self.now.term }
+        requires room { k * 64 + 64 ≤ length codes.now }
+        requires lanes { 64 ≤ length known.old }
+        ensures { RecordTold (get_or self.now.exits.now k Nothing) codes.now k known.old known.new result }
+    {
+        let mask = self.exits[k as usize];
+        if mask.is_nothing() {
+            return false;
+        }
+        tell_lanes(mask, codes, (k as usize) * 64, known);
+        self.pays(k, mask) && all_known(known)
     }
-    tell_lanes(m, codes, (k as usize) * 64, known);
-    if pays(m, k, term) {
-        return all_known(known);
-    }
-    false
-}
 
-// Whether a block may well end at record k: at the left part of a PRIOR, or where some records are left.
-fn pays(m: u8, k: u8, term: u8) -> bool {
-    (4 <= m) | ((k as usize) + 4 <= (term as usize))
+    // Whether a block may well end at record k: at the left part of a PRIOR, or where some records are left.
+    fn pays(&self, k: u8, mask: Exit) -> bool
+        requires { k ≤ self.now.term }
+    {
+        matches!(mask, Exit::All | Exit::TurnedAll) || self.term - k >= 4
+    }
 }

@@ -1,6 +1,5 @@
 // The rows that are left, gathered and queried again: whether their answers are those that they had.
-ghost use Rattle.std.specs.Prelude.{◌≡◌, false, ◌&&◌, [], ◌∷◌, ◌++◌, ℕ, ◌*◌, ◌+◌, ◌<◌, ◌≤◌, eqb, length, take, drop};
-ghost use Rattle.model.specs.declared.{QueryReply.QueryReply};
+ghost use Rattle.std.specs.Prelude.{◌≡◌, false, ◌&&◌, [], ◌∷◌, ◌++◌, ℕ, ◌*◌, ◌+◌, ◌<◌, ◌≤◌, eqb, length, take, drop, Ok};
 ghost use Rattle.model.specs.Query.{row_count, row_at};
 ghost use Rattle.model.specs.Leaving.{left_rows};
 ghost use Rattle.demands.specs.Witness.{Answers, by_reply};
@@ -54,13 +53,11 @@ fn gather(
         old.new × Buffers left.new old.new }
 {
     let mut m = 0;
-    let mut k = 0;
-    while k < n {
+    for k in 0..n {
         if stay[k] {
             put_row(columns, rows, k, left, old, m);
             m += 1;
         }
-        k += 1;
     }
     m
 }
@@ -80,22 +77,10 @@ fn put_row(
         × (take (m + 1) old.new ≡ take m old.old ++ k ∷ [])
         × Buffers left.new old.new }
 {
-    copy_row(rows, k * columns, columns, left, m * columns);
+    let from = k * columns;
+    let to = m * columns;
+    left[to..to + columns].copy_from_slice(&rows[from..from + columns]);
     old[m] = k as u16;
-}
-
-// Copies the cells of a row, after what is there.
-fn copy_row(rows: &[i32], from: usize, columns: usize, left: &mut [i32; 8192], to: usize)
-    requires { (from + columns ≤ length rows.now) × (to + columns ≤ 8192) × (length left.old ≡ 8192) }
-    ensures { (take (to + columns) left.new
-        ≡ take to left.old ++ take columns (drop from rows.now))
-        × (length left.new ≡ 8192) }
-{
-    let mut j = 0;
-    while j < columns {
-        left[to + j] = rows[from + j];
-        j += 1;
-    }
 }
 
 // Query refused nothing, as many rows were kept, and the entries are the same by old numbers.
@@ -107,14 +92,14 @@ fn same_answers(
     answers: &[u16],
     again: &[u16],
 ) -> bool
-    requires { (kept : ℕ) → reply ≡ QueryReply.Kept kept → OldNumbers old.now m answers.now again.now }
+    requires { (kept : ℕ) → reply ≡ Ok kept → OldNumbers old.now m answers.now again.now }
     ensures { result ≡ by_reply reply
         (λ kept. eqb kept total && same_by_number old.now m answers.now again.now)
         false }
 {
     match reply {
-        QueryReply::Refused(_) => false,
-        QueryReply::Kept(kept) => (kept == total) & same_by_number(old, m, answers, again),
+        Err(_) => false,
+        Ok(kept) => (kept == total) & same_by_number(old, m, answers, again),
     }
 }
 
@@ -123,14 +108,7 @@ fn same_by_number(old: &[u16; 1024], m: usize, answers: &[u16], again: &[u16]) -
     requires { OldNumbers old.now m answers.now again.now }
     ensures { result ≡ same_by_number old.now m answers.now again.now }
 {
-    let mut i = 0;
-    while i < m {
-        if !same_entry(old, m, answers, again, i) {
-            return false;
-        }
-        i += 1;
-    }
-    true
+    (0..m).all(|i| same_entry(old, m, answers, again, i))
 }
 
 // So is entry i.

@@ -1,5 +1,5 @@
 // Which rows are left, as marks.
-ghost use Rattle.std.specs.Prelude.{◌≡◌, false, not, cond, ℕ, ◌<◌, ◌≤◌, ltb, eqb, length, get_or};
+ghost use Rattle.std.specs.Prelude.{◌≡◌, false, not, ℕ, ◌<◌, ◌≤◌, eqb, length, get_or};
 ghost use Rattle.laws.specs.Wrote.{Wrote};
 ghost use Rattle.demands.specs.Leaving.{holds_own, marked, spared, kept_by_split};
 ghost use Rattle.demands.specs.Gathered.{Marking, Run};
@@ -12,21 +12,9 @@ pub fn mark_spared(entries: &[u16], out: &[u8], n: usize, stay: &mut [bool; 1024
     ensures { Wrote false (spared (holds_own entries.now) out.now) 0 n stay.old
         stay.new × (length stay.new ≡ 1024) }
 {
-    let mut i = 0;
-    while i < n {
+    for i in 0..n {
         stay[i] = holds_own(entries, i) | !asked_out(out, i);
-        i += 1;
     }
-}
-
-// How many of n rows the first catalogue has: `split`, or all there are.
-pub fn first_count(split: usize, n: usize) -> usize
-    ensures { result ≡ cond (ltb split n) split n }
-{
-    if split < n {
-        return split;
-    }
-    n
 }
 
 // Marks the rows that are kept by a query over the first `first` of n rows, and those kept by one over the others.
@@ -58,10 +46,8 @@ fn mark_kept(entries: &[u16], from: usize, count: usize, stay: &mut [bool; 1024]
     ensures { Wrote false (holds_own entries.now) from count stay.old stay.new
         × (length stay.new ≡ 1024) }
 {
-    let mut i = 0;
-    while i < count {
+    for i in 0..count {
         stay[from + i] = holds_own(entries, i);
-        i += 1;
     }
 }
 
@@ -77,8 +63,5 @@ fn holds_own(entries: &[u16], i: usize) -> bool
 fn asked_out(out: &[u8], i: usize) -> bool
     ensures { result ≡ not (eqb (get_or out.now i 0) 0) }
 {
-    if i < out.len() {
-        return out[i] != 0;
-    }
-    false
+    matches!(out.get(i), Some(asked) if *asked != 0)
 }

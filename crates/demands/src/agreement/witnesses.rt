@@ -1,7 +1,6 @@
 // Whether the entry of each dropped row is its witness: a row that holds its own number, is in its group, and is first better
 // in Compare's reply.
-ghost use Rattle.std.specs.Prelude.{◌≡◌, ℕ, ◌<◌};
-ghost use Rattle.model.specs.declared.{QueryReply.QueryReply};
+ghost use Rattle.std.specs.Prelude.{◌≡◌, ℕ, ◌<◌, Ok};
 ghost use Rattle.model.specs.Query.{row_count};
 ghost use Rattle.demands.specs.Witness.{Answers, is_witness, witnessed, all_witnessed, where_kept};
 
@@ -20,15 +19,15 @@ pub fn reply_witnessed(
     group: u8,
     answers: &[u16],
 ) -> bool
-    requires { (total : ℕ) → reply ≡ QueryReply.Kept total
+    requires { (total : ℕ) → reply ≡ Ok total
         → Answers columns rows.now (row_count columns rows.now) answers.now }
     ensures { result ≡ where_kept reply
         (all_witnessed table.now columns rows.now (row_count columns rows.now) term group
         answers.now) }
 {
     match reply {
-        QueryReply::Refused(_) => false,
-        QueryReply::Kept(_) => all_witnessed(
+        Err(_) => false,
+        Ok(_) => all_witnessed(
             table,
             columns,
             rows,
@@ -54,14 +53,7 @@ fn all_witnessed(
     ensures { result ≡ all_witnessed table.now columns rows.now n term group
         answers.now }
 {
-    let mut i = 0;
-    while i < n {
-        if !row_witnessed(table, columns, rows, n, term, group, answers, i) {
-            return false;
-        }
-        i += 1;
-    }
-    true
+    (0..n).all(|i| row_witnessed(table, columns, rows, n, term, group, answers, i))
 }
 
 // Row i is kept or has its witness.

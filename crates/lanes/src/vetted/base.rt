@@ -5,16 +5,16 @@ ghost use Rattle.laws.specs.ValueCodes.{tests_code};
 ghost use Rattle.laws.specs.Wrote.{Wrote};
 ghost use Rattle.lanes.specs.Lanes.{order_code, place_code, order_lane, ranked_lane, place_lane};
 
+use crate::each_lane::put;
+
 // By rank, where equal ranks are equal values.
+// As it is: any `count`, though all callers have 64: what may not change, since any is what is promised.
 pub fn order_lanes(ranks: &[i32], at: usize, x: i32, codes: &mut [u8], a: usize, count: usize)
-    requires { (at + count ≤ length ranks.now) × (a + count ≤ length codes.old) }
+    requires ranks { at + count ≤ length ranks.now }
+    requires codes { a + count ≤ length codes.old }
     ensures { Wrote 0 (order_lane x ranks.now at) a count codes.old codes.new }
 {
-    let mut j = 0;
-    while j < count {
-        codes[a + j] = order(x, ranks[at + j]);
-        j += 1;
-    }
+    put(&mut codes[a..a + count], |j, _| order(x, ranks[at + j]));
 }
 
 // By rank, where different values may have equal ranks.
@@ -29,14 +29,15 @@ pub fn ranked_lanes(
     a: usize,
     count: usize,
 )
-    requires { (at + count ≤ length ranks.now) × (from + count ≤ length values.now) × (a + count ≤ length codes.old) }
+    requires ranks { at + count ≤ length ranks.now }
+    requires values { from + count ≤ length values.now }
+    requires codes { a + count ≤ length codes.old }
     ensures { Wrote 0 (ranked_lane x ranks.now at v values.now from) a count codes.old codes.new }
 {
-    let mut j = 0;
-    while j < count {
-        codes[a + j] = ranked(x, ranks[at + j], v == values[from + j]);
-        j += 1;
-    }
+    put(
+        &mut codes[a..a + count],
+        |j, _| ranked(x, ranks[at + j], v == values[from + j]),
+    );
 }
 
 // By place among the ends of edges: `to` has the code of the row's place against each of the 33.
@@ -50,14 +51,15 @@ pub fn place_lanes(
     codes: &mut [u8],
     a: usize,
 )
-    requires { (at + 64 ≤ length ranks.now) × (from + 64 ≤ length values.now) × (a + 64 ≤ length codes.old) }
+    requires ranks { at + 64 ≤ length ranks.now }
+    requires values { from + 64 ≤ length values.now }
+    requires codes { a + 64 ≤ length codes.old }
     ensures { Wrote 0 (place_lane to.now ranks.now at v values.now from) a 64 codes.old codes.new }
 {
-    let mut j = 0;
-    while j < 64 {
-        codes[a + j] = placed(to, ranks[at + j], v == values[from + j]);
-        j += 1;
-    }
+    put(
+        &mut codes[a..a + 64],
+        |j, _| placed(to, ranks[at + j], v == values[from + j]),
+    );
 }
 
 // No branch, so that many of them go at once.
@@ -73,6 +75,7 @@ fn ranked(x: i32, y: i32, same: bool) -> u8
     (!same as u8) * (((x <= y) as u8) + 2 * ((y <= x) as u8))
 }
 
+// As it is: with `match usize::try_from(y)` a query over EXPLICIT took 1.17 times as long, at 1,024 rows and at 128.
 fn placed(to: &[u8; 33], y: i32, same: bool) -> u8
     ensures { result ≡ cond same 0 (place_code to.now y) }
 {

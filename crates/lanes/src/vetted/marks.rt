@@ -5,23 +5,27 @@ ghost use Rattle.std.specs.Prelude.{◌≡◌, cond, ◌+◌, ◌≤◌, length}
 ghost use Rattle.laws.specs.Wrote.{Wrote};
 ghost use Rattle.lanes.specs.Marks.{gone_lane, name_lane};
 
+use crate::each_lane::put;
 use crate::vetted::lit::any_hit;
 
 // Their rows are gone.
 pub fn gone_lanes(gone: &mut [u8], at: usize, live: &[u8], codes: &[u8], top: usize)
-    requires { (at + 64 ≤ length gone.old) × (64 ≤ length live.now) × (top + 64 ≤ length codes.now) }
+    requires gone { at + 64 ≤ length gone.old }
+    requires live { 64 ≤ length live.now }
+    requires codes { top + 64 ≤ length codes.now }
     ensures { Wrote 0 (gone_lane gone.old at live.now codes.now top) at 64 gone.old gone.new }
 {
-    let mut j = 0;
-    while j < 64 {
-        gone[at + j] = (!(gone[at + j] == 0) | ((live[j] == 1) & (codes[top + j] == 1))) as u8;
-        j += 1;
-    }
+    put(
+        &mut gone[at..at + 64],
+        |j, x| ((x != 0) | ((live[j] == 1) & (codes[top + j] == 1))) as u8,
+    );
 }
 
 // Row i is named for their rows; nothing is gone through where there are none, as in most blocks of a round.
 pub fn name_hits(by: &mut [u16], at: usize, live: &[u8], codes: &[u8], top: usize, i: u16)
-    requires { (at + 64 ≤ length by.old) × (64 ≤ length live.now) × (top + 64 ≤ length codes.now) }
+    requires by { at + 64 ≤ length by.old }
+    requires live { 64 ≤ length live.now }
+    requires codes { top + 64 ≤ length codes.now }
     ensures { Wrote 0 (name_lane by.old at live.now codes.now top i) at 64 by.old by.new }
 {
     if any_hit(live, codes, top, 1) {
@@ -31,21 +35,17 @@ pub fn name_hits(by: &mut [u16], at: usize, live: &[u8], codes: &[u8], top: usiz
 
 // Row i is named for their rows.
 pub fn name_lanes(by: &mut [u16], at: usize, live: &[u8], codes: &[u8], top: usize, i: u16)
-    requires { (at + 64 ≤ length by.old) × (64 ≤ length live.now) × (top + 64 ≤ length codes.now) }
+    requires by { at + 64 ≤ length by.old }
+    requires live { 64 ≤ length live.now }
+    requires codes { top + 64 ≤ length codes.now }
     ensures { Wrote 0 (name_lane by.old at live.now codes.now top i) at 64 by.old by.new }
 {
-    let mut j = 0;
-    while j < 64 {
-        by[at + j] = chosen((live[j] == 1) & (codes[top + j] == 1), i, by[at + j]);
-        j += 1;
-    }
-}
-
-fn chosen(named: bool, i: u16, old: u16) -> u16
-    ensures { result ≡ cond named i old }
-{
-    if named {
-        return i;
-    }
-    old
+    put(
+        &mut by[at..at + 64],
+        |j, x| if (live[j] == 1) & (codes[top + j] == 1) {
+            i
+        } else {
+            x
+        },
+    );
 }

@@ -1,11 +1,18 @@
 -- `perfect::perfect` meets its contract.
 use mathlib.Core.Path.{sym, ◌∙◌}
 use native.Mathlib.Omega.{arith}
+use borrow.Author.Rules.{rules}
 use Rattle.model.specs.Compare.{fails_row}
 use Rattle.model.specs.Perfect.{perfect_reply}
 use Rattle.perfect.proofs.MarksLaws.{asked-few}
 use Rattle.perfect.proofs.Reply.{says, asked}
 use Rattle.perfect.proofs.perfect.Goals as goal
+
+pub returns-in_err-term_verdict : goal.returns-in_err-term_verdict
+unfolding perfect_reply fails_row
+returns-in_err-term_verdict c =
+    let a = c.args in
+    says a.table.now a.columns a.term a.row.now _ (rw (sym c.in_err-term_verdict.ensures) (search rules))
 
 pub overflow_cast-term : goal.overflow_cast-term
 overflow_cast-term c =
@@ -13,25 +20,25 @@ overflow_cast-term c =
     record {
       fits = omega (
         arith,
-        asked-few a.table.now a.term ((let a = c.args in
-            asked a.table.now a.columns a.term a.row.now _ (sym c.term_verdict-verdict.ensures ∙ c.in-Passed.is))),
+        asked-few a.table.now a.term (asked a.table.now a.columns a.term a.row.now _ (sym c.in_ok-term_verdict.ensures)),
       );
     }
 
-pub is_perfect-requires : goal.is_perfect-requires
-is_perfect-requires c = (let a = c.args in
-    asked a.table.now a.columns a.term a.row.now _ (sym c.term_verdict-verdict.ensures ∙ c.in-Passed.is))
+pub is_perfect-perfect-requires : goal.is_perfect-perfect-requires
+is_perfect-perfect-requires c =
+    let a = c.args in
+    asked a.table.now a.columns a.term a.row.now _ (sym c.in_ok-term_verdict.ensures)
 
-pub returns-in-Refused : goal.returns-in-Refused
+pub returns-then-perfect : goal.returns-then-perfect
 unfolding perfect_reply fails_row
-returns-in-Refused c =
+returns-then-perfect c =
     let a = c.args in
     says a.table.now a.columns a.term a.row.now _
-    (rw (sym c.term_verdict-verdict.ensures ∙ c.in-Refused.is))
+    (rw (sym c.in_ok-term_verdict.ensures, sym c.is_perfect-perfect.ensures ∙ c.if-perfect.true))
 
-pub returns-in-Passed : goal.returns-in-Passed
+pub returns-else-perfect : goal.returns-else-perfect
 unfolding perfect_reply fails_row
-returns-in-Passed c =
+returns-else-perfect c =
     let a = c.args in
     says a.table.now a.columns a.term a.row.now _
-    (rw (sym c.term_verdict-verdict.ensures ∙ c.in-Passed.is, c.mark.ensures, c.is_perfect.ensures))
+    (rw (sym c.in_ok-term_verdict.ensures, sym c.is_perfect-perfect.ensures ∙ c.if-perfect.false))

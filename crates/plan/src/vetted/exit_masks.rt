@@ -1,77 +1,85 @@
-// What a record's mask tells of the asked term's code, and the masks of parts. Each function asks what the check has shown
-// before. Codes: same 0, first better 1, second better 2, unranked 3. A record's mask says what its code tells of the asked
-// term's: 0 nothing; 1 its bits are among that one's; 2 so are they with first and second better exchanged; 5 and 6 the same,
-// and if it is not same, that one has no others.
+// What a record's outcome tells of the asked term's: its mask. Each function asks what the check has shown before. Codes: same
+// 0, first better 1, second better 2, unranked 3.
 ghost use Rattle.std.specs.Prelude.{◌≡◌, ◌<◌};
-ghost use Rattle.plan.specs.Told.{wholly_code, told_code, turned_mask, part_mask, own_mask};
+ghost use Rattle.plan.specs.Told.{is_nothing, wholly_code, told_code, turned_mask, part_mask, own_mask};
 
 use terms::codes::turned_code;
 
-// What a record of mask m and code c tells: bits that the asked term's code has; 4 more where these are all.
-pub fn told(m: u8, c: u8) -> u8
-    requires { c < 4 }
-    ensures { result ≡ told_code m c }
-{
-    if m == 1 {
-        return c;
+// Nothing; or that the bits of its code are among those of the asked term's; or that they are so with first and second better
+// exchanged; or, `All` and `TurnedAll`, the same, and if the code is not same, that the asked term's has no others.
+#[derive(Clone, Copy, PartialEq, Eq)]
+pub enum Exit {
+    Nothing,
+    Bits,
+    TurnedBits,
+    All,
+    TurnedAll,
+}
+
+impl Exit {
+    pub fn is_nothing(self) -> bool
+        ensures { result ≡ is_nothing self }
+    {
+        matches!(self, Exit::Nothing)
     }
-    if m == 2 {
-        return turned_code(c);
+
+    // What a record of this mask and code c tells: bits that the asked term's code has; 4 more where these are all.
+    // Always inlined, and two short choices, not one of five: each meeting of two rows calls it for each record.
+    #[inline(always)]
+    #[tactic(auto, using(crate::proofs::Bits::turned_low), unfolding(crate::specs::Told::told_code))]
+    pub fn told(self, c: u8) -> u8
+        requires { c < 4 }
+        ensures { result ≡ told_code self c }
+    {
+        let code = match self {
+            Exit::TurnedBits | Exit::TurnedAll => turned_code(c),
+            _ => c,
+        };
+        match self {
+            Exit::Nothing => 0,
+            Exit::Bits | Exit::TurnedBits => code,
+            Exit::All | Exit::TurnedAll => wholly(code),
+        }
     }
-    if m == 5 {
-        return wholly(c);
+
+    // The mask of a DUAL's part.
+    pub fn turned(self) -> Exit
+        ensures { result ≡ turned_mask self }
+    {
+        match self {
+            Exit::Nothing => Exit::Nothing,
+            Exit::Bits => Exit::TurnedBits,
+            Exit::TurnedBits => Exit::Bits,
+            Exit::All => Exit::TurnedAll,
+            Exit::TurnedAll => Exit::All,
+        }
     }
-    if m == 6 {
-        return wholly(turned_code(c));
+
+    // The mask of a part of a PARETO or BOTH,
+    pub fn part(self) -> Exit
+        ensures { result ≡ part_mask self }
+    {
+        match self {
+            Exit::All => Exit::Bits,
+            Exit::TurnedAll => Exit::TurnedBits,
+            _ => self,
+        }
     }
-    0
+
+    // and what is left to the PARETO or BOTH itself.
+    pub fn own(self) -> Exit
+        ensures { result ≡ own_mask self }
+    {
+        match self {
+            Exit::Bits | Exit::TurnedBits => Exit::Nothing,
+            _ => self,
+        }
+    }
 }
 
 fn wholly(c: u8) -> u8
     requires { c < 4 }
     ensures { result ≡ wholly_code c }
 {
-    if c == 0 {
-        return 0;
-    }
-    c + 4
-}
-
-pub fn turned_mask(m: u8) -> u8
-    ensures { result ≡ turned_mask m }
-{
-    if m == 1 {
-        return 2;
-    }
-    if m == 2 {
-        return 1;
-    }
-    if m == 5 {
-        return 6;
-    }
-    if m == 6 {
-        return 5;
-    }
-    0
-}
-
-pub fn part_mask(m: u8) -> u8
-    ensures { result ≡ part_mask m }
-{
-    if m == 5 {
-        return 1;
-    }
-    if m == 6 {
-        return 2;
-    }
-    m
-}
-
-pub fn own_mask(m: u8) -> u8
-    ensures { result ≡ own_mask m }
-{
-    if m < 4 {
-        return 0;
-    }
-    m
+    if c == 0 { 0 } else { c + 4 }
 }

@@ -4,8 +4,10 @@ ghost use Rattle.std.specs.Prelude.{◌≡◌, ◌≤◌, length};
 ghost use Rattle.model.specs.Better.{equal_in};
 
 // Goes from set bit to set bit and ends at the first difference.
+// As it is: the next column is that of the next set bit, which no range and no iterator gives.
 pub fn in_group(group: u8, x: &[i32], y: &[i32]) -> bool
-    requires { (length x.now ≡ length y.now) × (length x.now ≤ 8) }
+    requires same { length x.now ≡ length y.now }
+    requires few { length x.now ≤ 8 }
     ensures { result ≡ equal_in group x.now y.now }
 {
     let n = x.len();

@@ -6,34 +6,35 @@ ghost use Rattle.model.specs.Query.{row_at};
 ghost use Rattle.rows.specs.Keys.{key_of, Keyed};
 
 // Fills `keys` by the cells of the lowest column of the group; with 0 where the rows have no such column.
-pub fn fill_keys(group: u8, columns: usize, rows: &[i32], n: usize, keys: &mut [u8])
-    requires { (length rows.now ≡ n * columns) × (columns ≤ 8) × (n ≤ length keys.old) }
-    ensures { Keyed group columns rows.now n keys.new }
+// As it is: columns, cells and n and no `Rows`, which would ask for at most 1,024 rows; this takes any number.
+pub fn fill_keys(group: u8, columns: usize, cells: &[i32], n: usize, keys: &mut [u8])
+    requires whole { length cells.now ≡ n * columns }
+    requires narrow { columns ≤ 8 }
+    requires room { n ≤ length keys.old }
+    ensures { Keyed group columns cells.now n keys.new }
 {
-    let unset = u8::trailing_zeros(group);
-    let c = unset as usize;
-    let mut i = 0;
-    while i < n {
-        keys[i] = row_key(columns, rows, n, c, i);
-        i += 1;
+    let c = group.trailing_zeros() as usize;
+    for i in 0..n {
+        keys[i] = row_key(columns, cells, n, c, i);
     }
 }
 
 // The key of row i by column c.
-fn row_key(columns: usize, rows: &[i32], n: usize, c: usize, i: usize) -> u8
-    requires { (length rows.now ≡ n * columns) × (i < n) }
-    ensures { result ≡ key_of (cell (row_at columns rows.now i) c) }
+fn row_key(columns: usize, cells: &[i32], n: usize, c: usize, i: usize) -> u8
+    requires whole { length cells.now ≡ n * columns }
+    requires within { i < n }
+    ensures { result ≡ key_of (cell (row_at columns cells.now i) c) }
 {
     if c < columns {
-        return key(rows[i * columns + c]);
+        key(cells[i * columns + c])
+    } else {
+        0
     }
-    0
 }
 
 // The low byte of x, which is counted from the lowest number.
 fn key(x: i32) -> u8
     ensures { result ≡ key_of x }
 {
-    let up = (x as i64) + 2147483648;
-    ((up as u64) % 256) as u8
+    (x.cast_unsigned() % 256) as u8
 }

@@ -16,28 +16,27 @@ use records::parts::is_term_at;
 pub fn term_verdict(table: &[u8], columns: usize, unfit: bool, term: usize) -> Verdict
     ensures { result ≡ term_verdict table.now columns unfit term }
 {
-    let own = table_verdict(table, columns);
-    match own {
-        Verdict::Refused(why) => Verdict::Refused(why),
-        Verdict::Passed => rows_and_term(table, unfit, term),
-    }
+    table_verdict(table, columns)?;
+    rows_and_term(table, unfit, term)
 }
 
 // 15 ROWS, then 16 TERM.
+#[tactic(auto, unfolding(model::specs::Replies::refusal, model::specs::Replies::numbered, model::specs::Replies::refusals))]
 fn rows_and_term(table: &[u8], unfit: bool, term: usize) -> Verdict
     requires { record_count table.now ≤ 128 }
     ensures { result ≡ (refuse_if unfit (refusal 15 0) then refuse_if (fails_term table.now term) (refusal 16 0)) }
 {
     if unfit {
-        return Verdict::Refused(Refusal::Rows);
+        return Err(Refusal::Rows);
     }
     if fails_term(table, term) {
-        return Verdict::Refused(Refusal::Term);
+        return Err(Refusal::Term);
     }
-    Verdict::Passed
+    Ok(())
 }
 
 // 16 TERM: number given is not a term record.
+#[tactic(auto, unfolding(model::specs::Record::record_count, model::specs::Compare::fails_term))]
 fn fails_term(table: &[u8], term: usize) -> bool
     requires { record_count table.now ≤ 128 }
     ensures { result ≡ fails_term table.now term }

@@ -13,12 +13,9 @@ pub fn closure(table: &[u8], j: u8, k: u8) -> [[bool; 32]; 32]
 {
     let x = ends(table, j);
     let mut g = [[false; 32]; 32];
-    let mut i = j + 1;
-    while i < k {
+    for i in j + 1..k {
         let e = 2 * ((i - j - 1) as usize);
-        let h = with_edge(&x, &g, e);
-        g = h;
-        i += 1;
+        g = with_edge(&x, &g, e);
     }
     g
 }
@@ -30,11 +27,8 @@ fn with_edge(x: &[u32; 32], g: &[[bool; 32]; 32], e: usize) -> [[bool; 32]; 32]
 {
     let to = reached(x, g, e + 1);
     let mut h = [[false; 32]; 32];
-    let mut a = 0usize;
-    while a < 32 {
-        let row = row_with(x, g, &to, e, a);
-        h[a] = row;
-        a += 1;
+    for a in 0..32 {
+        h[a] = row_with(x, g, &to, e, a);
     }
     h
 }
@@ -45,10 +39,8 @@ fn reached(x: &[u32; 32], g: &[[bool; 32]; 32], f: usize) -> [bool; 32]
     ensures { (b : ℕ) → b < 32 → get_or result b false ≡ reached_at x.now g.now f b }
 {
     let mut to = [false; 32];
-    let mut b = 0usize;
-    while b < 32 {
+    for b in 0..32 {
         to[b] = (x[b] == x[f]) | g[f][b];
-        b += 1;
     }
     to
 }
@@ -69,10 +61,8 @@ fn either(p: &[bool; 32], q: &[bool; 32]) -> [bool; 32]
     ensures { (b : ℕ) → b < 32 → get_or result b false ≡ (get_or p.now b false || get_or q.now b false) }
 {
     let mut row = [false; 32];
-    let mut b = 0usize;
-    while b < 32 {
+    for b in 0..32 {
         row[b] = p[b] | q[b];
-        b += 1;
     }
     row
 }
@@ -83,12 +73,8 @@ fn ends(table: &[u8], j: u8) -> [u32; 32]
     ensures { (a : ℕ) → a < 32 → get_or result a 0 ≡ end_word table.now j a }
 {
     let mut x = [0u32; 32];
-    let mut a = 0u8;
-    while a < 32 {
-        let v = end_word(table, j, a);
-        let at = a as usize;
-        x[at] = v;
-        a += 1;
+    for a in 0..32 {
+        x[a as usize] = end_word(table, j, a);
     }
     x
 }

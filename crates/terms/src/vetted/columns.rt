@@ -15,12 +15,8 @@ pub fn masks(table: &[u8], m: u8) -> [u8; 256]
     ensures { (k : ℕ) → k < 256 → get_or result k 0 ≡ mask_below table.now m k }
 {
     let mut a = [1u8; 256];
-    let mut i = 0u8;
-    while i < m {
-        let x = mask_of(unnumbered(table, i), &a);
-        let at = i as usize;
-        a[at] = x;
-        i += 1;
+    for i in 0..m {
+        a[i as usize] = mask_of(unnumbered(table, i), &a);
     }
     a
 }
@@ -37,26 +33,10 @@ fn mask_of(r: Record, a: &[u8; 256]) -> u8
     ensures { result ≡ mask_of r (λ k. get_or a.now k 0) }
 {
     match r {
-        Record::Value(_) => 1,
         Record::Base(column, _) => 1 << column,
-        Record::Compound(c) => mask_in(c, a),
-        Record::Unknown => 1,
-    }
-}
-
-fn mask_in(c: CompoundTerm, a: &[u8; 256]) -> u8
-    ensures { result ≡ mask_of (Compound c) (λ k. get_or a.now k 0) }
-{
-    match c {
-        CompoundTerm::Joined(_, p, q) => {
-            let i = p as usize;
-            let j = q as usize;
-            a[i] | a[j]
-        }
-        CompoundTerm::Dual(p) => {
-            let i = p as usize;
-            a[i]
-        }
+        Record::Compound(CompoundTerm::Joined(_, p, q)) => a[p as usize] | a[q as usize],
+        Record::Compound(CompoundTerm::Dual(p)) => a[p as usize],
+        Record::Value(_) | Record::Unknown => 1,
     }
 }
 

@@ -3,8 +3,12 @@ ghost use Rattle.std.specs.Prelude.{◌≡◌, ◌*◌, ◌≤◌, length};
 ghost use Rattle.terms.specs.Places.{Ends, leads_to};
 
 // Whether the number at place q is better than that at place p; 2 e is the place of a number in no edge.
+// As it is: 2 e for none is no plainer as an Option. It is the place past the last, and the rank that EXPLICIT gives such a
+// number.
 pub fn leads(reach: &[[bool; 32]], k: u8, e: u8, p: usize, q: usize) -> bool
-    requires { Ends k e p × Ends k e q × (2 * e ≤ length reach.now) }
+    requires place { Ends k e p }
+    requires other { Ends k e q }
+    requires rows { 2 * e ≤ length reach.now }
     ensures { result ≡ leads_to reach.now k e p q }
 {
     let none = 2 * (e as usize);

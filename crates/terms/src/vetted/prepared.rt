@@ -6,7 +6,7 @@ ghost use Rattle.model.specs.Record.{record_count, kind_at, record_at, is_term};
 ghost use Rattle.terms.specs.Prepared.{number_at, Numbers, Vetted, RunEnds, RowsPut, Reached};
 
 use crate::vetted::closure::closure;
-use model::RECORD_BYTES;
+use model::{Kind, MOST_RECORDS, RECORD_BYTES};
 use records::parts::is_term_at;
 use records::record::{kind_at, u_at, v_at};
 
@@ -14,25 +14,13 @@ use records::record::{kind_at, u_at, v_at};
 pub fn numbers(table: &[u8]) -> [i32; 256]
     ensures { Numbers table.now result }
 {
-    let last = number_count(table.len());
+    // Read are those of every record that has a byte, and 256 at most.
+    let last = 2 * table.len().div_ceil(RECORD_BYTES).min(MOST_RECORDS);
     let mut a = [0i32; 256];
-    let mut i = 0usize;
-    while i < last {
-        let x = number_at(table, i);
-        a[i] = x;
-        i += 1;
+    for i in 0..last {
+        a[i] = number_at(table, i);
     }
     a
-}
-
-// How many numbers are read: those of every record that has a byte, and 256 at most.
-fn number_count(bytes: usize) -> usize
-    ensures { (result ≤ 256) × ((i : ℕ) → result ≤ i → i < 256 → bytes ≤ 12 * (i / 2)) }
-{
-    if bytes < 1536 {
-        return (bytes + 11) / 12 * 2;
-    }
-    256
 }
 
 fn number_at(table: &[u8], i: usize) -> i32
@@ -54,21 +42,13 @@ pub fn run_ends(table: &[u8]) -> [u8; 128]
     let n = (table.len() / RECORD_BYTES) as u8;
     let mut ends = [0u8; 128];
     let mut next = n;
-    let mut k = n;
-    while 0 < k {
-        k -= 1;
-        let at = k as usize;
-        ends[at] = next;
-        next = first_term(table, k, next);
+    for k in (0..n).rev() {
+        ends[k as usize] = next;
+        if is_term_at(table, k) {
+            next = k;
+        }
     }
     ends
-}
-
-// The first term record from record k on, where `next` is the first one after it.
-fn first_term(table: &[u8], k: u8, next: u8) -> u8
-    ensures { result ≡ cond (is_term (record_at table.now k)) k next }
-{
-    if is_term_at(table, k) { k } else { next }
 }
 
 // Whether a term has edges.
@@ -77,13 +57,7 @@ pub fn has_explicit(table: &[u8]) -> bool
     ensures { result ≡ any_below (record_count table.now) (λ k. eqb (kind_at table.now k) 9) }
 {
     let n = (table.len() / RECORD_BYTES) as u8;
-    let mut some = false;
-    let mut k = 0u8;
-    while k < n {
-        some = some | (kind_at(table, k) == 9);
-        k += 1;
-    }
-    some
+    (0..n).any(|k| kind_at(table, k) == Kind::Explicit as u8)
 }
 
 // What each end of an edge reaches among the ends of its own term's edges: row 2 i for u of value record i, row 2 i + 1 for
@@ -93,15 +67,11 @@ pub fn fill_closures(table: &[u8], ends: &[u8; 128], reach: &mut [[bool; 32]; 25
     ensures { Reached table.now ends.now reach.new × (length reach.new ≡ 256) }
 {
     let n = (table.len() / RECORD_BYTES) as u8;
-    let mut k = 0u8;
-    while k < n {
-        if kind_at(table, k) == 9 {
-            let at = k as usize;
-            let e = ends[at];
-            let g = closure(table, k, e);
-            put_rows(reach, &g, k, e);
+    for k in 0..n {
+        if kind_at(table, k) == Kind::Explicit as u8 {
+            let e = ends[k as usize];
+            put_rows(reach, &closure(table, k, e), k, e);
         }
-        k += 1;
     }
 }
 
@@ -112,10 +82,5 @@ fn put_rows(reach: &mut [[bool; 32]; 256], g: &[[bool; 32]; 32], k: u8, e: u8)
 {
     let start = 2 * (k as usize) + 2;
     let last = 2 * (e as usize);
-    let mut i = start;
-    while i < last {
-        let row = g[i - start];
-        reach[i] = row;
-        i += 1;
-    }
+    reach[start..last].copy_from_slice(&g[..last - start]);
 }

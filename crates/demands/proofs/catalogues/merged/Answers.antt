@@ -7,7 +7,7 @@ use Rattle.model.specs.Query.{row_count}
 use Rattle.demands.specs.Leaving.{marked, first_count, kept_by_split, merges, merges_buffer}
 use Rattle.demands.proofs.Witnesses.{replied-answers}
 use Rattle.demands.proofs.Again.{said-refused, said-kept}
-use Rattle.demands.proofs.LeftOut.{first-within, merges-holds}
+use Rattle.demands.proofs.LeftOut.{min-is, first-within, merges-holds}
 use Rattle.demands.proofs.catalogues.merged.Goals as goal
 
 pub nonzero_div-n : goal.nonzero_div-n
@@ -15,7 +15,7 @@ nonzero_div-n c =
     let a = c.args in
     let n =
     replied-answers a.table.now a.columns a.rows.now a.term a.group a.answers.now _
-    c.query_direct-whole.result c.query_direct-whole.ensures.0 c.query_direct-whole.ensures.1 c.in-Kept.total c.in-Kept.is in
+    c.query_direct-whole.result c.query_direct-whole.ensures.reply c.query_direct-whole.ensures.buffer c.in-Ok.total c.in-Ok.is in
     n.some
 
 pub mark_apart-requires : goal.mark_apart-requires
@@ -24,9 +24,9 @@ mark_apart-requires c =
     let a = c.args in
     let n =
     replied-answers a.table.now a.columns a.rows.now a.term a.group a.answers.now _
-    c.query_direct-whole.result c.query_direct-whole.ensures.0 c.query_direct-whole.ensures.1 c.in-Kept.total c.in-Kept.is in (
+    c.query_direct-whole.result c.query_direct-whole.ensures.reply c.query_direct-whole.ensures.buffer c.in-Ok.total c.in-Ok.is in (
       record { few = n.few; run = n.run; most = n.most },
-      rw c.first_count-first.ensures (first-within a.columns a.rows.now a.split),
+      rw (c.min-first.ensures ∙ min-is a.split _) (first-within a.columns a.rows.now a.split),
       length-replicate 1024 false,
     )
 
@@ -34,18 +34,18 @@ pub queried_again-requires : goal.queried_again-requires
 queried_again-requires c =
     let a = c.args in
     replied-answers a.table.now a.columns a.rows.now a.term a.group a.answers.now _
-    c.query_direct-whole.result c.query_direct-whole.ensures.0 c.query_direct-whole.ensures.1 c.in-Kept.total c.in-Kept.is
+    c.query_direct-whole.result c.query_direct-whole.ensures.reply c.query_direct-whole.ensures.buffer c.in-Ok.total c.in-Ok.is
 
-pub returns-in-Refused : goal.returns-in-Refused
+pub returns-in-Err : goal.returns-in-Err
 unfolding merges merges_buffer
-returns-in-Refused c =
+returns-in-Err c =
     let a = c.args in
     let e = c.query_direct-whole.ensures in
     let said =
     said-refused a.table.now a.columns a.rows.now a.term a.group a.answers.now a.again.now
-    _ c.query_direct-whole.result e.0 e.1 c.in-Refused.field-0 c.in-Refused.is _ _ in (
+    _ c.query_direct-whole.result e.reply e.buffer c.in-Err.field-0 c.in-Err.is _ _ in (
       said.0,
-      e.1,
+      e.buffer,
       said.1,
       λ ok low is rows_fit group-fits long room. said.0
           ∙ merges-holds a.table.now a.columns a.rows.now a.split a.term a.group
@@ -58,20 +58,20 @@ returns-in-Refused c =
           long room,
     )
 
-pub returns-in-Kept : goal.returns-in-Kept
+pub returns-in-Ok : goal.returns-in-Ok
 unfolding merges merges_buffer first_count row_count
-returns-in-Kept c =
+returns-in-Ok c =
     let a = c.args in
     let e = c.query_direct-whole.ensures in
     let said =
     said-kept a.table.now a.columns a.rows.now a.term a.group a.answers.now a.again.now _
-    c.query_direct-whole.result e.0 e.1 (marked _) _
+    c.query_direct-whole.result e.reply e.buffer (marked _) _
     (λ i h. c.mark_apart.ensures i h
     ∙ ap (λ (k : ℕ). kept_by_split a.table.now a.columns a.rows.now k a.term a.group i)
-    c.first_count-first.ensures)
-    c.in-Kept.total c.in-Kept.is c.queried_again.result _ c.queried_again.ensures.0 c.queried_again.ensures.1 in (
+    (c.min-first.ensures ∙ min-is a.split _))
+    c.in-Ok.total c.in-Ok.is c.queried_again.result _ c.queried_again.ensures.0 c.queried_again.ensures.1 in (
       said.0,
-      e.1,
+      e.buffer,
       said.1,
       λ ok low is rows_fit group-fits long space. said.0
           ∙ merges-holds a.table.now a.columns a.rows.now a.split a.term a.group

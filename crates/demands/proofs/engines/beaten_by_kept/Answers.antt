@@ -6,14 +6,14 @@ pub reply_witnessed-witnessed-requires : goal.reply_witnessed-witnessed-requires
 reply_witnessed-witnessed-requires c =
     let a = c.args in
     replied-answers a.table.now a.columns a.rows.now a.term a.group a.answers.now _
-    c.query_direct-direct.result c.query_direct-direct.ensures.0 c.query_direct-direct.ensures.1
+    c.query_direct-direct.result c.query_direct-direct.ensures.reply c.query_direct-direct.ensures.buffer
 
 pub reply_witnessed-requires : goal.reply_witnessed-requires
 reply_witnessed-requires c =
     let a = c.args in
     replied-answers a.table.now a.columns a.rows.now a.term a.group
     c.query_direct-direct.new.answers _
-    c.query_by_parts-parts.result c.query_by_parts-parts.ensures.0 c.query_by_parts-parts.ensures.1
+    c.query_by_parts-parts.result c.query_by_parts-parts.ensures.reply c.query_by_parts-parts.ensures.buffer
 
 pub returns : goal.returns
 returns c =
@@ -22,8 +22,8 @@ returns c =
     both-witnessed a.table.now a.columns a.rows.now a.term a.group a.answers.now
     c.query_direct-direct.new.answers _ c.query_direct-direct.result c.query_by_parts-parts.result
     c.reply_witnessed-witnessed.result c.reply_witnessed.result
-    c.query_direct-direct.ensures.0 c.query_direct-direct.ensures.1 c.reply_witnessed-witnessed.ensures
-    c.query_by_parts-parts.ensures.0 c.query_by_parts-parts.ensures.1 c.reply_witnessed.ensures in (
+    c.query_direct-direct.ensures.reply c.query_direct-direct.ensures.buffer c.reply_witnessed-witnessed.ensures
+    c.query_by_parts-parts.ensures.reply c.query_by_parts-parts.ensures.buffer c.reply_witnessed.ensures in (
       both.0,
       both.1,
       λ ok low is rows_fit group-fits long. both.2

@@ -1,4 +1,5 @@
 -- `demands::engines::engines_agree` meets its contract, by those of the two engines.
+use Rattle.std.proofs.Common.{rules}
 use Rattle.demands.proofs.Agreed.{agreed}
 use Rattle.demands.proofs.engines.engines_agree.Goals as goal
 
@@ -7,6 +8,6 @@ returns c =
     let a = c.args in
     agreed a.table.now a.columns a.rows.now a.term a.group a.a.now a.b.now _ _
     c.query_direct-direct.result c.query_by_parts-parts.result
-    c.query_direct-direct.ensures.0 c.query_direct-direct.ensures.1
-    c.query_by_parts-parts.ensures.0 c.query_by_parts-parts.ensures.1
-    c.same_reply.result c.same_entries.result c.same_reply.ensures c.same_entries.ensures
+    c.query_direct-direct.ensures.reply c.query_direct-direct.ensures.buffer
+    c.query_by_parts-parts.ensures.reply c.query_by_parts-parts.ensures.buffer
+    c.eq.result c.eq-2.result (search rules) (search rules)

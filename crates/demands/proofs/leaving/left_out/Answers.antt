@@ -16,7 +16,7 @@ nonzero_div-rows c =
     let a = c.args in
     let n =
     replied-answers a.table.now a.columns a.rows.now a.term a.group a.answers.now _
-    c.query_direct-whole.result c.query_direct-whole.ensures.0 c.query_direct-whole.ensures.1 c.in-Kept.total c.in-Kept.is in
+    c.query_direct-whole.result c.query_direct-whole.ensures.reply c.query_direct-whole.ensures.buffer c.in-Ok.total c.in-Ok.is in
     n.some
 
 pub mark_spared-requires : goal.mark_spared-requires
@@ -25,25 +25,25 @@ mark_spared-requires c =
     let a = c.args in
     let n =
     replied-answers a.table.now a.columns a.rows.now a.term a.group a.answers.now _
-    c.query_direct-whole.result c.query_direct-whole.ensures.0 c.query_direct-whole.ensures.1 c.in-Kept.total c.in-Kept.is in
+    c.query_direct-whole.result c.query_direct-whole.ensures.reply c.query_direct-whole.ensures.buffer c.in-Ok.total c.in-Ok.is in
     record { long = n.long; few = omega (arith, n.most); room = length-replicate 1024 false }
 
 pub queried_again-requires : goal.queried_again-requires
 queried_again-requires c =
     let a = c.args in
     replied-answers a.table.now a.columns a.rows.now a.term a.group a.answers.now _
-    c.query_direct-whole.result c.query_direct-whole.ensures.0 c.query_direct-whole.ensures.1 c.in-Kept.total c.in-Kept.is
+    c.query_direct-whole.result c.query_direct-whole.ensures.reply c.query_direct-whole.ensures.buffer c.in-Ok.total c.in-Ok.is
 
-pub returns-in-Refused : goal.returns-in-Refused
+pub returns-in-Err : goal.returns-in-Err
 unfolding left_out left_out_buffer
-returns-in-Refused c =
+returns-in-Err c =
     let a = c.args in
     let e = c.query_direct-whole.ensures in
     let said =
     said-refused a.table.now a.columns a.rows.now a.term a.group a.answers.now a.again.now
-    _ c.query_direct-whole.result e.0 e.1 c.in-Refused.field-0 c.in-Refused.is _ _ in (
+    _ c.query_direct-whole.result e.reply e.buffer c.in-Err.field-0 c.in-Err.is _ _ in (
       said.0,
-      e.1,
+      e.buffer,
       said.1,
       λ ok low is rows_fit group-fits long room. said.0
           ∙ left-out-holds a.table.now a.columns a.rows.now a.term a.group a.out.now
@@ -56,19 +56,19 @@ returns-in-Refused c =
           long room,
     )
 
-pub returns-in-Kept : goal.returns-in-Kept
+pub returns-in-Ok : goal.returns-in-Ok
 unfolding left_out left_out_buffer row_count
-returns-in-Kept c =
+returns-in-Ok c =
     let a = c.args in
     let e = c.query_direct-whole.ensures in
     let said =
     said-kept a.table.now a.columns a.rows.now a.term a.group a.answers.now a.again.now _
-    c.query_direct-whole.result e.0 e.1 (marked _) _
+    c.query_direct-whole.result e.reply e.buffer (marked _) _
     (marks-spared a.table.now a.columns a.rows.now a.term a.group a.answers.now _ a.out.now
-    _ _ _ e.1 c.mark_spared.ensures.0)
-    c.in-Kept.total c.in-Kept.is c.queried_again.result _ c.queried_again.ensures.0 c.queried_again.ensures.1 in (
+    _ _ _ e.buffer c.mark_spared.ensures.0)
+    c.in-Ok.total c.in-Ok.is c.queried_again.result _ c.queried_again.ensures.0 c.queried_again.ensures.1 in (
       said.0,
-      e.1,
+      e.buffer,
       said.1,
       λ ok low is rows_fit group-fits long space. said.0
           ∙ left-out-holds a.table.now a.columns a.rows.now a.term a.group a.out.now

@@ -1,6 +1,6 @@
 -- `direct::kept_list::list_kept` meets its contract.
 use mathlib.Core.Path.{◌≡◌}
-use Prim.Native.Nat.{◌-◌, ◌≤◌}
+use Prim.Native.Nat.{◌≤◌}
 use lib.Dec.{eqb}
 use lib.ListN.{length, get_or}
 use Rattle.model.specs.Search.{count_below}
@@ -9,8 +9,5 @@ use Rattle.direct.proofs.kept_list.list_kept.Given as goal
 
 abbrev pub invariant-loop-i : goal.invariant-loop-i
 invariant-loop-i l =
-    (l.i ≤ l.n) × (length l.kept ≡ length l.initial.kept) × (l.m ≡ count_below l.i (λ j. eqb (get_or l.gone j 0) 0)) × (l.m ≤ l.i)
+    (length l.kept ≡ length l.initial.kept) × (l.m ≡ count_below l.i (λ j. eqb (get_or l.gone j 0) 0)) × (l.m ≤ l.i)
     × Listed (λ j. eqb (get_or l.gone j 0) 0) l.i l.kept
-
-abbrev pub decreases-loop-i : goal.decreases-loop-i
-decreases-loop-i l = l.n - l.i

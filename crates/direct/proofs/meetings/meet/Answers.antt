@@ -3,31 +3,31 @@ use mathlib.Core.Path.{◌∙◌}
 use mathlib.Core.Bool.{false≢true}
 use native.Mathlib.Omega.{arith}
 use Rattle.model.specs.Term.{term_at}
-use Rattle.laws.specs.Meetings.{meet-gone, meet-apart, meet-code}
+use Rattle.laws.specs.Meetings.{meet-apart, meet-code}
 use Rattle.laws.specs.Beaten.{beaten-code}
 use Rattle.pairs.proofs.Grouped.{group-first, group-second, keys-apart}
 use Rattle.direct.proofs.meetings.meet.Goals as goal
-
-pub returns-then-gone-j-ne0 : goal.returns-then-gone-j-ne0
-returns-then-gone-j-ne0 c =
-    let p = c.requires in
-    (meet-gone _ _ _ _ _ p.4 p.1 c.if-gone-j-ne0.true, p.5, λ on. absurd (false≢true on), p.3.of_codes)
 
 pub returns-then-keys-i : goal.returns-then-keys-i
 returns-then-keys-i c =
     let a = c.args in
     let p = c.requires in
-    let d = keys-apart p.6 (term_at a.table.now a.term) a.i a.j p.1 p.2 c.if-keys-i.true in
-    (meet-apart _ _ _ _ _ p.4 p.1 d.0 d.1, p.5, λ on. absurd (false≢true on), p.3.of_codes)
+    let d = keys-apart p.keyed (term_at a.pairs.now.table.now a.pairs.now.term) a.i a.j p.first p.second c.if-keys-i.true in
+    record {
+      met = meet-apart _ _ _ _ _ p.turn p.first d.0 d.1;
+      beaten = p.beaten;
+      lost = λ on. absurd (false≢true on);
+    }
 
 pub returns : goal.returns
 returns c =
     let p = c.requires in
-    let r = c.group_code-c.ensures in
-    let e = group-first p.0.taken _ _ _ _ r.0 in
-    let f = group-second p.0.taken _ _ _ _ r.0 in (
-      meet-code _ _ _ _ _ p.4 c.group_code-c.result p.1 p.2 (omega arith) c.if-gone-j-ne0.false e f,
-      beaten-code _ _ _ _ _ _ c.group_code-c.result p.1 p.2 (omega arith) (omega arith) p.4.rest c.if-gone-j-ne0.false e p.5,
-      λ on. f ∙ on,
-      r.1,
-    )
+    let r = c.group_code-c.result in
+    let taken = c.args.pairs.now.comparable.taken in
+    let e = group-first taken _ _ _ _ c.group_code-c.ensures in
+    let f = group-second taken _ _ _ _ c.group_code-c.ensures in
+    record {
+      met = meet-code _ _ _ _ _ p.turn r p.first p.second (omega arith) c.if-gone-j-ne0.false e f;
+      beaten = beaten-code _ _ _ _ _ _ r p.first p.second (omega arith) (omega arith) p.turn.rest c.if-gone-j-ne0.false e p.beaten;
+      lost = λ on. f ∙ on;
+    }

@@ -1,24 +1,9 @@
 -- `pairs::values::by_rank` meets its contract.
 use mathlib.Core.Bool.{false}
 use native.Mathlib.Omega.{arith}
-use lib.Signed.{le_z}
-use mir.Syntax.{w32}
-use mir.Val.{to_z, of_z}
 use mir.Facts.{to_z-of_z}
-use Rattle.laws.specs.Tests.{byte_small, ranked-sum}
+use Rattle.laws.specs.Tests.{ranked-sum}
 use Rattle.pairs.proofs.values.by_rank.Goals as goal
-
-pub overflow_mul-result : goal.overflow_mul-result
-overflow_mul-result c =
-    let x = to_z w32 (of_z w32 c.args.x) in
-    let y = to_z w32 (of_z w32 c.args.y) in
-    omega (arith, byte_small (le_z x y), byte_small (le_z y x))
-
-pub overflow_add-result : goal.overflow_add-result
-overflow_add-result c =
-    let x = to_z w32 (of_z w32 c.args.x) in
-    let y = to_z w32 (of_z w32 c.args.y) in
-    omega (arith, byte_small (le_z x y), byte_small (le_z y x))
 
 pub returns : goal.returns
 returns c =

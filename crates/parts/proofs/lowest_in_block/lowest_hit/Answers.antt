@@ -1,30 +1,27 @@
-use native.Mathlib.Nat.{le_antisymm}
-use native.Mathlib.Omega.{arith}
-use borrow.Author.Rules.{rules}
-use Rattle.laws.specs.Search.{find-is, find_none}
-use Rattle.lanes.specs.Lit.{lit, hit}
-use Rattle.parts.proofs.InBlock.{miss_more}
+-- `parts::lowest_in_block::lowest_hit` meets its contract.
+use Rattle.std.proofs.Common.{◌≡◌, true, false, List, ℕ, ◌≤◌, ◌<◌, arith, rules, tests}
+use Rattle.std.specs.Prelude.{Option, Some, None}
+use Rattle.std.specs.Option.{MatchOption}
+use Rattle.std.proofs.lemmas.Iterator.{first_from_Range}
+use Rattle.lanes.specs.Lit.{hit, lit}
+use Rattle.parts.specs.LowestIn.{FirstHit}
 use Rattle.parts.proofs.lowest_in_block.lowest_hit.Goals as goal
 
-pub loop-j-init : goal.loop-j-init
-loop-j-init c = (search rules, λ x l. absurd (omega arith))
-
-pub returns-then-live-j : goal.returns-then-live-j
-unfolding hit lit
-returns-then-live-j c =
-    let x = c.args in
-    let v = c.loop-j.invariant in
-    find-is 64 (hit x.live.now x.codes.now x.top 2) _ (omega arith) c.if-live-j.true v.1
-
-pub loop-j-preserved : goal.loop-j-preserved
-unfolding hit lit
-loop-j-preserved c =
-    let v = c.loop-j.invariant in
-    let x = c.args in
-    (omega arith, miss_more (hit x.live.now x.codes.now x.top 2) _ v.1 c.if-live-j.false)
+-- What a search from 0 finds.
+from-zero : (live codes : List ℕ) (top : ℕ) (o : Option ℕ)
+    → MatchOption o ((j : ℕ) → 0 ≤ j → j < 64 → hit live codes top 2 j ≡ false)
+    (λ r. (0 ≤ r) × (r < 64) × (hit live codes top 2 r ≡ true) × ((j : ℕ) → 0 ≤ j → j < r → hit live codes top 2 j ≡ false))
+    → MatchOption o ((j : ℕ) → j < 64 → hit live codes top 2 j ≡ false) (FirstHit live codes top)
+from-zero live codes top None none = λ j l. none j (omega arith) l
+from-zero live codes top (Some r) f = record { lane = f.1; hits = f.2; least = λ j l. f.3 j (omega arith) l }
 
 pub returns : goal.returns
+unfolding hit lit
 returns c =
-    let v = c.loop-j.invariant in
-    let q = le_antisymm v.0 c.loop-j-test.false in
-    find_none 64 _ (rw q at v.1)
+    let live = c.args.live.now in
+    let codes = c.args.codes.now in
+    let top = c.args.top in
+    from-zero live codes top _ (
+    first_from_Range _ _ _ _ (λ j. hit live codes top 2 j ≡ true) (λ j. hit live codes top 2 j ≡ false) c.find.ensures.ran
+    (λ x q k. search (rules, tests))
+    (λ x q k. (search rules, search (rules, tests))))

@@ -3,6 +3,8 @@ use native.Mathlib.Omega.{arith}
 use mir.Facts.{to_z-of_z}
 use mir.Syntax.{w32}
 use mir.Val.{SFits}
+use borrow.Author.Rules.{rules}
+use Rattle.model.specs.Better.{distance, distance_between}
 use Rattle.laws.specs.Extremes.{none_worse}
 use Rattle.records.proofs.Signed.{eq-bits}
 use Rattle.perfect.proofs.extremes.none_worse.Goals as goal
@@ -19,15 +21,19 @@ pub returns-in-Around : goal.returns-in-Around
 unfolding none_worse
 returns-in-Around c =
     let wish : SFits w32 c.in-Around.wish = record { sfits = c.in-Around.known_told-1-own.given.0.1 } in
-    rw (c.in-Around.is, c.farthest_around.ensures, to_z-of_z wish, to_z-of_z c.ranges.x)
+    rw (c.in-Around.is, c.farthest.ensures (distance c.in-Around.wish) (λ y r p. search (rules, to_z-of_z wish)), to_z-of_z c.ranges.x)
 
 pub returns-in-Between : goal.returns-in-Between
 unfolding none_worse
 returns-in-Between c =
     let low : SFits w32 c.in-Between.low = record { sfits = c.in-Between.known_told-in-Between-1-own.given.0.1 } in
     let up : SFits w32 c.in-Between.up = record { sfits = c.in-Between.known_told-in-Between-1-own.given.1.0.1 } in
-    let x = c.ranges.x in
-    rw (c.in-Between.is, c.farthest_between.ensures, to_z-of_z low, to_z-of_z up, to_z-of_z x)
+    rw (
+      c.in-Between.is,
+      c.farthest-in-Between.ensures (distance_between c.in-Between.low c.in-Between.up)
+          (λ y r p. search (rules, to_z-of_z low, to_z-of_z up)),
+      to_z-of_z c.ranges.x,
+    )
 
 pub returns-in-Pos : goal.returns-in-Pos
 unfolding none_worse

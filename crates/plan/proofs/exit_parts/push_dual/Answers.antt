@@ -1,12 +1,12 @@
 -- `plan::exit_parts::push_dual` meets its contract.
-use borrow.Author.Tests.{eq-eqb, ne_eqb}
+use mathlib.Core.Path.{refl, sym, ◌∙◌}
 use Rattle.plan.specs.Exits.{dual_pushed}
 use Rattle.plan.proofs.exit_parts.push_dual.Goals as goal
 
-pub returns-then-exits-i-eq0 : goal.returns-then-exits-i-eq0
+pub returns-then-is_nothing : goal.returns-then-is_nothing
 unfolding dual_pushed
-returns-then-exits-i-eq0 c = rw (eq-eqb _ _ c.if-exits-i-eq0.true, ← c.turned_mask.ensures)
+returns-then-is_nothing c = rw (sym c.is_nothing.ensures ∙ c.if-is_nothing.true, c.turned.ensures) refl
 
-pub returns-else-exits-i-eq0 : goal.returns-else-exits-i-eq0
+pub returns-else-is_nothing : goal.returns-else-is_nothing
 unfolding dual_pushed
-returns-else-exits-i-eq0 c = rw (ne_eqb _ _ c.if-exits-i-eq0.false)
+returns-else-is_nothing c = rw (sym c.is_nothing.ensures ∙ c.if-is_nothing.false) refl

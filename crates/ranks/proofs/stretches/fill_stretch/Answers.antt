@@ -1,63 +1,70 @@
--- `ranks::stretches::fill_stretch` meets its contract.
 use mathlib.Core.Path.{refl}
-use Rattle.records.proofs.Signed.{returned}
+use lib.IntN.{pos}
+use lib.ListN.{get_or-replicate}
+use borrow.Author.Rules.{rules}
+use Rattle.laws.specs.Runs.{values_between}
 use Rattle.ranks.specs.Rank.{rank_of}
-use Rattle.ranks.specs.Copied.{one-stretch}
+use Rattle.ranks.proofs.ClassesLaws.{pos-is, neg_is, pos-neg-is, pos-pos-is, place_is}
+use Rattle.ranks.proofs.Named.{put-made}
 use Rattle.ranks.proofs.stretches.fill_stretch.Goals as goal
 
 pub returns-in-Lowest : goal.returns-in-Lowest
 unfolding rank_of
 returns-in-Lowest c =
-    let s = c.copy_stretch.ensures in
-    rw c.in-Lowest.is (record { here = s.here; kept = s.kept })
+    rw c.in-Lowest.is (record { each = λ j l. let w = c.fill.ensures.each j l in search rules })
 
 pub returns-in-Highest : goal.returns-in-Highest
 unfolding rank_of
 returns-in-Highest c =
-    let s = c.mirror_stretch.ensures in
-    rw c.in-Highest.is (record { here = s.here; kept = s.kept })
+    rw c.in-Highest.is (record { each = λ j l. let w = c.fill-in-Highest.ensures.each j l in search rules })
 
 pub returns-in-Around : goal.returns-in-Around
 unfolding rank_of
 returns-in-Around c =
-    let wish = c.in-Around.wish in
-    let s = rw (returned wish c.in-Around.known_told-1-own.given.0.1 refl) at c.around_stretch.ensures in
-    rw c.in-Around.is (record { here = s.here; kept = s.kept })
+    rw c.in-Around.is (record { each = λ j l. let w = c.fill-in-Around.ensures.each j l in search rules })
 
 pub returns-in-Between : goal.returns-in-Between
 unfolding rank_of
 returns-in-Between c =
-    let low = c.in-Between.low in
-    let up = c.in-Between.up in
-    let g = c.in-Between.known_told-in-Between-1-own.given in
-    let s = rw (returned low g.0.1 refl, returned up g.1.0.1 refl) at c.between_stretch.ensures in
-    rw c.in-Between.is (record { here = s.here; kept = s.kept })
+    rw c.in-Between.is (record { each = λ j l. let w = c.fill-in-Between.ensures.each j l in search rules })
 
 pub returns-in-Pos : goal.returns-in-Pos
 returns-in-Pos c =
-    let s = c.pos_ranks.ensures in
-    rw c.in-Pos.is (record { here = s.here; kept = s.kept })
+    let run = c.args.run.now in
+    rw c.in-Pos.is
+    (put-made c.one_role.ensures c.requires.few c.requires.within c.cells.ensures
+    (λ x r. pos-is (values_between run.of.table.now run.k run.e) x))
 
 pub returns-in-Neg : goal.returns-in-Neg
 returns-in-Neg c =
-    let s = c.neg_ranks.ensures in
-    rw c.in-Neg.is (record { here = s.here; kept = s.kept })
+    let run = c.args.run.now in
+    rw c.in-Neg.is
+    (put-made c.one_role-in-Neg.ensures c.requires.few c.requires.within c.cells-in-Neg.ensures
+    (λ x r. neg_is (values_between run.of.table.now run.k run.e) x))
 
 pub returns-in-PosNeg : goal.returns-in-PosNeg
 returns-in-PosNeg c =
-    let s = c.pos_neg_ranks.ensures in
-    rw c.in-PosNeg.is (record { here = s.here; kept = s.kept })
+    let run = c.args.run.now in
+    rw c.in-PosNeg.is
+    (put-made c.two_roles.ensures c.requires.few c.requires.within c.cells-in-PosNeg.ensures
+    (λ x r. pos-neg-is (values_between run.of.table.now run.k run.e) x))
 
 pub returns-in-PosPos : goal.returns-in-PosPos
 returns-in-PosPos c =
-    let s = c.pos_pos_ranks.ensures in
-    rw c.in-PosPos.is (record { here = s.here; kept = s.kept })
+    let run = c.args.run.now in
+    rw c.in-PosPos.is
+    (put-made c.two_roles-in-PosPos.ensures c.requires.few c.requires.within c.cells-in-PosPos.ensures
+    (λ x r. pos-pos-is (values_between run.of.table.now run.k run.e) x))
 
 pub returns-in-Explicit : goal.returns-in-Explicit
 returns-in-Explicit c =
-    let s = c.place_ranks.ensures in
-    rw c.in-Explicit.is (record { here = s.here; kept = s.kept })
+    let run = c.args.run.now in
+    rw c.in-Explicit.is
+    (put-made c.places.ensures c.requires.few c.requires.within c.cells-in-Explicit.ensures
+    (λ x r. place_is run.of.table.now run.k run.e run.values x))
 
 pub returns-in-Any : goal.returns-in-Any
 unfolding rank_of
-returns-in-Any c = rw c.in-Any.is (one-stretch _ _ _ _ _ _ _ _ _ (λ x. refl) c.put_all.ensures)
+returns-in-Any c =
+    rw c.in-Any.is
+    (record { each = λ j l. rw (c.fill-in-Any.ensures.after (λ y is. search rules), get_or-replicate _ j (pos 0) (pos 0) (rw c.fill-in-Any.ensures.len at l)) refl })

@@ -1,31 +1,41 @@
-use mathlib.Core.Path.{refl, ◌∙◌}
-use native.Mathlib.Nat.{le_antisymm}
+use mathlib.Core.Path.{◌≡◌, refl, sym, ◌∙◌}
+use mathlib.Core.Logic.{⊎_elim}
+use mathlib.Core.Bool.{cond}
 use native.Mathlib.Omega.{arith}
-use lib.ListN.{length-set}
+use lib.IntN.{pos}
+use lib.ListN.{get_or}
+use lib.Seq.{get_or-set_same, get_or-set_other}
 use mir.Syntax.{w32}
+use mir.Val.{to_z}
 use mir.Facts.{to_z-of_z}
-use borrow.Author.Rules.{rules, sfits_of}
-use Rattle.laws.specs.Writes.{wrote_none, wrote-store}
-use Rattle.ranks.proofs.Stored.{equal_is, same_number}
+use borrow.Author.Tests.{eq-eqb, ne_eqb}
+use Rattle.laws.specs.Search.{lt-suc-cases}
+use Rattle.records.proofs.Signed.{eq-bits}
+use Rattle.ranks.specs.Put.{is_number}
+use Rattle.ranks.proofs.Named.{put-each}
+use Rattle.ranks.proofs.values.put_equal.Goals.{then-cells-j, else-cells-j}
 use Rattle.ranks.proofs.values.put_equal.Goals as goal
 
-pub loop-j-init : goal.loop-j-init
-loop-j-init c = (search rules, refl, wrote_none _ _ _ _)
-
 pub loop-j-preserved : goal.loop-j-preserved
+unfolding is_number
 loop-j-preserved c =
-    let v = c.loop-j.invariant in (
-      omega arith,
-      simp length-set v.1,
-      wrote-store _ _ _ _ _ _ v.2 (omega arith)
-          (to_z-of_z {w = w32} (sfits_of c.chosen.type_inv)
-          ∙ equal_is _ _ _ _ _ _ c.chosen.ensures
-          (same_number (sfits_of c.chosen-arg-1.given) c.ranges.u)
-          (to_z-of_z {w = w32} (sfits_of c.chosen-arg-in-loop-j-1.given) ∙ v.2.above _ (omega arith))),
+    let a = c.args in
+    let j = c.loop-j.j in
+    let v = c.loop-j.invariant in
+    let cell = get_or a.cells.now j (pos 0) in
+    let same = eq-bits {a = cell} {b = a.u} (record { sfits = c.t13-1.given }) c.ranges.u in
+    let stored : to_z w32 c.if-cells-j.rank-bits ≡ cond (is_number a.u cell) a.y (get_or a.ranks.now j (pos 0)) =
+    elim c.if-cells-j.branch [
+      | then-cells-j w ↦ rw (w.rank-is, to_z-of_z c.ranges.y, sym same ∙ eq-eqb _ _ w.if-cells-j.true) refl
+      | else-cells-j w ↦
+          let kept = to_z-of_z {w = w32} {z = get_or c.loop-j.ranks j (pos 0)} (record { sfits = w.rank-else-cells-j-1.given }) in
+          rw (w.rank-is, kept, v.1 j (omega arith), sym same ∙ ne_eqb _ _ w.if-cells-j.false) refl
+    ] in (
+      λ h b. ⊎_elim (λ o. get_or-set_other c.loop-j.ranks j h _ (pos 0) (λ q. omega (arith, o, q)) ∙ v.0 h o)
+          (λ q. rw (q, get_or-set_same c.loop-j.ranks j _ (pos 0) (omega arith), to_z-of_z c.ranges.u, to_z-of_z c.ranges.y) stored)
+          (lt-suc-cases h j (omega (arith, b))),
+      λ h b. get_or-set_other c.loop-j.ranks j h _ (pos 0) (λ q. omega (arith, b, q)) ∙ v.1 h (omega (arith, b)),
     )
 
 pub returns : goal.returns
-returns c =
-    let v = c.loop-j.invariant in
-    let f = c.ranges in
-    rw (to_z-of_z f.u, to_z-of_z f.y) at (rw (le_antisymm v.0 c.loop-j-test.false) at v.2)
+returns c = put-each c.loop-j.auto.ranks (λ j l. rw (to_z-of_z c.ranges.u, to_z-of_z c.ranges.y) at (c.loop-j.invariant.0 j (omega (arith, l))))

@@ -1,16 +1,9 @@
--- `ranks::values::put_equal` meets its contract: the first j entries.
-use mathlib.Core.Path.{◌≡◌}
-use Prim.Native.Nat.{◌-◌, ◌≤◌}
-use lib.IntN.{pos}
-use lib.ListN.{length}
-use Rattle.laws.specs.Wrote.{Wrote}
-use Rattle.ranks.specs.Put.{put_lane, is_number}
+-- `ranks::values::put_equal` meets its contract: the ranks below j.
+use Rattle.std.proofs.Common.{ℕ, ◌≡◌, ◌<◌, ◌≤◌, cond, pos, get_or}
+use Rattle.ranks.specs.Put.{is_number}
 use Rattle.ranks.proofs.values.put_equal.Given as goal
 
 abbrev pub invariant-loop-j : goal.invariant-loop-j
 invariant-loop-j l =
-    (l.j ≤ l.m) × (length l.ranks ≡ length l.initial.ranks)
-    × Wrote (pos 0) (put_lane (is_number l.u) l.y l.cells l.initial.ranks l.at) l.at l.j l.initial.ranks l.ranks
-
-abbrev pub decreases-loop-j : goal.decreases-loop-j
-decreases-loop-j l = l.m - l.j
+    ((h : ℕ) → h < l.j → get_or l.ranks h (pos 0) ≡ cond (is_number l.fn.u (get_or l.cells h (pos 0))) l.fn.y (get_or l.initial.ranks h (pos 0)))
+    × ((h : ℕ) → l.j ≤ h → get_or l.ranks h (pos 0) ≡ get_or l.initial.ranks h (pos 0))

@@ -1,12 +1,10 @@
 -- `records::record::u_at` meets its contract.
-use mathlib.Core.Path.{◌∙◌, ap}
-use mir.Facts.{to_z-of_z}
-use borrow.Author.Rules.{sfits_of}
+use Rattle.std.proofs.Common.{◌∙◌, ap}
 use Rattle.model.specs.Bytes.{signed}
 use Rattle.model.specs.Record.{u_at}
-use mir.Syntax.{w32}
+use Rattle.records.proofs.Signed.{bits-signed, returned}
 use Rattle.records.proofs.record.u_at.Goals as goal
 
 pub returns : goal.returns
 unfolding u_at
-returns c = to_z-of_z {w = w32} (sfits_of c.to_signed.type_inv) ∙ c.to_signed.ensures ∙ ap signed c.u_word.ensures
+returns c = returned c.cast_signed.result c.cast_signed.type_inv (c.cast_signed.ensures ∙ bits-signed c.u_word.result ∙ ap signed c.u_word.ensures)

@@ -6,10 +6,10 @@ use Rattle.model.specs.Record.{kind_at, p_at, q_at}
 use Rattle.table.proofs.ApartLaws.{narrow, both_below, apart-is, apart_none}
 use Rattle.table.proofs.apart.fails_apart.Goals as goal
 
-pub returns-then-kind_at-ne18 : goal.returns-then-kind_at-ne18
-returns-then-kind_at-ne18 c =
+pub returns-then-kind_at : goal.returns-then-kind_at
+returns-then-kind_at c =
     let a = c.args in
-    sym (apart_none a.table.now a.k (rw (← c.kind_at.ensures) (ne_eqb _ _ c.if-kind_at-ne18.true)))
+    sym (apart_none a.table.now a.k (rw (← c.kind_at.ensures) (ne_eqb _ _ c.if-kind_at.true)))
 
 pub masks-a-requires : goal.masks-a-requires
 masks-a-requires c =
@@ -18,7 +18,7 @@ masks-a-requires c =
 pub returns : goal.returns
 returns c =
     let t = c.args.table.now in
-    let e : kind_at t c.args.k ≡ 18 = sym c.kind_at.ensures ∙ c.if-kind_at-ne18.false in
+    let e : kind_at t c.args.k ≡ 18 = sym c.kind_at.ensures ∙ c.if-kind_at.false in
     let h = both_below t c.args.columns c.args.k c.requires e in
     rw (
       c.p_at-p.ensures,

@@ -1,12 +1,13 @@
 -- `table::chains::judge_run` meets its contract.
+use mathlib.Core.Path.{sym, ◌∙◌}
 use Prim.Native.Nat.{◌-◌, ◌+◌, ◌≤◌}
 use native.Mathlib.Omega.{arith}
-use borrow.Author.Tests.{le-leb, lt-leb}
+use borrow.Author.Tests.{le-leb}
 use Rattle.model.specs.Record.{nearest_term}
 use Rattle.model.specs.Replies.{refusals, numbered, refusal}
 use Rattle.laws.specs.Runs.{nearest-bound}
 use Rattle.table.specs.Judging.{judge_run}
-use Rattle.table.proofs.RunsLaws.{values, run, crowd-is, clash-is, loop-is}
+use Rattle.table.proofs.RunsLaws.{values, crowd-is, run-few}
 use Rattle.table.proofs.chains.judge_run.Goals as goal
 
 pub overflow_sub-k : goal.overflow_sub-k
@@ -21,13 +22,6 @@ returns-then-k-near-gt-MOST_VALUES c =
     let e = c.requires.1 in
     rw (crowd-is t c.args.columns c.args.k c.requires.0, le-leb 16 (c.args.k - nearest_term t c.args.k - 1) (omega (arith, e, c.if-k-near-gt-MOST_VALUES.true)))
 
-pub fails_loop-requires : goal.fails_loop-requires
-fails_loop-requires c =
-    let t = c.args.table.now in
-    let e = c.requires.1 in
-    let h : c.args.k ≤ nearest_term t c.args.k + 16 = omega (arith, e, c.if-k-near-gt-MOST_VALUES.false) in
-    rw e (values t c.args.columns c.args.k c.requires.0 h, h, c.requires.0.fielded.reached.few)
-
 pub fails_clash-requires : goal.fails_clash-requires
 fails_clash-requires c =
     let t = c.args.table.now in
@@ -35,20 +29,40 @@ fails_clash-requires c =
     let few : c.args.k ≤ nearest_term t c.args.k + 16 = omega (arith, e, c.if-k-near-gt-MOST_VALUES.false) in
     rw e (values t c.args.columns c.args.k c.requires.0 few)
 
-pub returns : goal.returns
-unfolding judge_run refusal numbered refusals
-returns c =
+pub returns-then-fails_clash : goal.returns-then-fails_clash
+unfolding refusal numbered refusals
+returns-then-fails_clash c =
+    let e = c.requires.1 in
+    let clash-few : c.args.k ≤ nearest_term c.args.table.now c.args.k + 16 = omega (arith, e, c.if-k-near-gt-MOST_VALUES.false) in
+    rw (
+      run-few c.args.table.now c.args.columns c.args.k c.requires.0 clash-few,
+      rw e at (sym c.fails_clash.ensures ∙ c.if-fails_clash.true),
+    )
+
+pub fails_loop-requires : goal.fails_loop-requires
+fails_loop-requires c =
     let t = c.args.table.now in
     let e = c.requires.1 in
-    let b = (run t c.args.columns c.args.k c.requires.0).before in
+    let h : c.args.k ≤ nearest_term t c.args.k + 16 = omega (arith, e, c.if-k-near-gt-MOST_VALUES.false) in
+    rw e (values t c.args.columns c.args.k c.requires.0 h, h, c.requires.0.fielded.reached.few)
+
+pub returns-then-fails_loop : goal.returns-then-fails_loop
+unfolding refusal numbered refusals
+returns-then-fails_loop c =
+    let e = c.requires.1 in
+    let loop-few : c.args.k ≤ nearest_term c.args.table.now c.args.k + 16 = omega (arith, e, c.if-k-near-gt-MOST_VALUES.false) in
     rw (
-      crowd-is t c.args.columns c.args.k c.requires.0,
-      lt-leb 16 (c.args.k - nearest_term t c.args.k - 1) (omega (arith, e, c.if-k-near-gt-MOST_VALUES.false, b)),
-      clash-is t c.args.columns c.args.k c.requires.0,
-      loop-is t c.args.columns c.args.k c.requires.0,
-      c.refuse_or.ensures,
-      c.fails_clash.ensures,
-      c.refuse_or-v.ensures,
-      c.fails_loop.ensures,
-      e,
+      run-few c.args.table.now c.args.columns c.args.k c.requires.0 loop-few,
+      rw e at (sym c.fails_clash.ensures ∙ c.if-fails_clash.false),
+      rw e at (sym c.fails_loop.ensures ∙ c.if-fails_loop.true),
+    )
+
+pub returns : goal.returns
+returns c =
+    let e = c.requires.1 in
+    let end-few : c.args.k ≤ nearest_term c.args.table.now c.args.k + 16 = omega (arith, e, c.if-k-near-gt-MOST_VALUES.false) in
+    rw (
+      run-few c.args.table.now c.args.columns c.args.k c.requires.0 end-few,
+      rw e at (sym c.fails_clash.ensures ∙ c.if-fails_clash.false),
+      rw e at (sym c.fails_loop.ensures ∙ c.if-fails_loop.false),
     )

@@ -23,4 +23,4 @@ returns c =
     let t = c.args.table.now in
     let e : get_or c.masks-a.result (top_of t) 0 ≡ columns_of (term_at t (top_of t)) =
     c.masks-a.ensures (top_of t) (omega (arith, c.requires.top, c.requires.few)) ∙ top_mask t c.requires.top in
-    rw (c.count_columns-count.ensures, n.ensures.0, e)
+    rw (c.count_columns-count.ensures, n.ensures.nearest, e)

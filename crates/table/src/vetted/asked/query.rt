@@ -18,15 +18,12 @@ pub fn query_verdict(
 ) -> Verdict
     ensures { result ≡ query_verdict table.now columns rows.now term group answers.now }
 {
-    let unfit = fails_rows(columns, rows);
-    let own = term_verdict(table, columns, unfit, term);
-    match own {
-        Verdict::Refused(why) => Verdict::Refused(why),
-        Verdict::Passed => group_and_room(columns, rows, group, answers),
-    }
+    term_verdict(table, columns, fails_rows(columns, rows), term)?;
+    group_and_room(columns, rows, group, answers)
 }
 
 // 15 ROWS: run not a multiple of the count, or over 1,024 rows. A count of 0 is refused as 1 WIDTH before.
+#[tactic(auto, unfolding(model::specs::Query::row_count, model::specs::Query::fails_rows))]
 fn fails_rows(columns: usize, rows: &[i32]) -> bool
     ensures { 0 < columns → result ≡ fails_rows columns rows.now }
 {
@@ -37,34 +34,30 @@ fn fails_rows(columns: usize, rows: &[i32]) -> bool
 }
 
 // 17 GROUP, then 18 SHORT.
+#[tactic(auto, unfolding(model::specs::Replies::refusal, model::specs::Replies::numbered, model::specs::Replies::refusals))]
 fn group_and_room(columns: usize, rows: &[i32], group: u8, answers: &[u16]) -> Verdict
     requires { 0 < columns }
     ensures { result ≡ (refuse_if (fails_group columns group) (refusal 17 0)
         then refuse_if (fails_short columns rows.now answers.now) (refusal 18 0)) }
 {
     if fails_group(columns, group) {
-        return Verdict::Refused(Refusal::Group);
+        return Err(Refusal::Group);
     }
     if fails_short(columns, rows, answers) {
-        return Verdict::Refused(Refusal::Short);
+        return Err(Refusal::Short);
     }
-    Verdict::Passed
+    Ok(())
 }
 
 // 17 GROUP: group bit at or above the count.
 fn fails_group(columns: usize, group: u8) -> bool
     ensures { result ≡ fails_group columns group }
 {
-    let mut some = false;
-    let mut j = 0usize;
-    while j < 8 {
-        some = some | (((group >> j) % 2 == 1) & (columns <= j));
-        j += 1;
-    }
-    some
+    (0..8).any(|j| ((group >> j) % 2 == 1) & (columns <= j))
 }
 
 // 18 SHORT: answer buffer with fewer entries than there are rows.
+#[tactic(auto, unfolding(model::specs::Query::row_count, model::specs::Query::fails_short))]
 fn fails_short(columns: usize, rows: &[i32], answers: &[u16]) -> bool
     requires { 0 < columns }
     ensures { result ≡ fails_short columns rows.now answers.now }

@@ -9,40 +9,30 @@ use Rattle.demands.proofs.agreement.left.gather.Goals.{then-stay-k, else-stay-k}
 pub loop-k-init : goal.loop-k-init
 loop-k-init c =
     let a = c.args in (
-      omega arith,
       gathered_none a.columns a.rows.now (marked a.stay.now) a.left.now a.old.now,
       c.requires.1,
     )
-
-pub bounds-stay-k : goal.bounds-stay-k
-bounds-stay-k c = omega arith
 
 pub put_row-requires : goal.put_row-requires
 put_row-requires c =
     let a = c.args in
     let v = c.loop-k.invariant in
-    let w = gathered-few a.columns a.rows.now (marked a.stay.now) c.loop-k.k c.loop-k.m _ _ v.1 in (
+    let w = gathered-few a.columns a.rows.now (marked a.stay.now) c.loop-k.k c.loop-k.m _ _ v.0 in (
       record {
         few = c.requires.0.few;
         in_run = row_in a.n a.columns _ c.requires.0.run c.loop-k.k (omega arith);
         low = omega (arith, c.requires.0.most);
         room = omega (arith, c.requires.0.most, w);
       },
-      v.2,
+      v.1,
     )
 
 pub overflow_add-m : goal.overflow_add-m
 overflow_add-m c =
     let a = c.args in
     let w = gathered-few a.columns a.rows.now (marked a.stay.now) c.loop-k.k c.loop-k.m _ _
-    c.loop-k.invariant.1 in
+    c.loop-k.invariant.0 in
     omega (arith, w, c.requires.0.most)
-
-pub overflow_add-k : goal.overflow_add-k
-overflow_add-k c = omega arith
-
-pub loop-k-smaller : goal.loop-k-smaller
-loop-k-smaller c = omega arith
 
 pub loop-k-preserved : goal.loop-k-preserved
 unfolding marked
@@ -52,18 +42,16 @@ loop-k-preserved c =
     let stays = marked a.stay.now in
     elim c.if-stay-k.branch [
       | then-stay-k w ↦ (
-        omega arith,
         rw (w.left-is, w.old-is, w.m-is)
             (gathered-more a.columns a.rows.now stays c.loop-k.k c.loop-k.m c.loop-k.left c.loop-k.old
-            v.1 _ _ w.if-stay-k.true w.put_row.ensures.0 w.put_row.ensures.1),
+            v.0 _ _ w.if-stay-k.true w.put_row.ensures.0 w.put_row.ensures.1),
         rw (w.left-is, w.old-is) w.put_row.ensures.2,
       )
       | else-stay-k w ↦ (
-        omega arith,
         rw (w.left-is, w.old-is, w.m-is)
             (gathered-same a.columns a.rows.now stays c.loop-k.k c.loop-k.m c.loop-k.left c.loop-k.old
-            v.1 w.if-stay-k.false),
-        rw (w.left-is, w.old-is) v.2,
+            v.0 w.if-stay-k.false),
+        rw (w.left-is, w.old-is) v.1,
       )
     ]
 
@@ -71,4 +59,4 @@ pub returns : goal.returns
 returns c =
     let v = c.loop-k.invariant in
     let e : c.loop-k.k ≡ c.args.n = omega arith in
-    (rw e at v.1, v.2)
+    (rw e at v.0, v.1)

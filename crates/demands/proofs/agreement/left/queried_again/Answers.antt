@@ -51,7 +51,7 @@ same_answers-one-requires c =
     let a = c.args in
     numbers-within a.columns a.rows.now (marked a.stay.now) c.gather-m.result _ _ _ c.requires
     c.gather-m.ensures.0 a.table.now a.term a.group a.again.now _ c.query_direct-direct.result
-    c.query_direct-direct.ensures.0 c.query_direct-direct.ensures.1
+    c.query_direct-direct.ensures.reply c.query_direct-direct.ensures.buffer
 
 pub slice_bounds-left-end-2 : goal.slice_bounds-left-end-2
 unfolding row_count
@@ -77,7 +77,7 @@ same_answers-requires c =
     let a = c.args in
     numbers-within a.columns a.rows.now (marked a.stay.now) c.gather-m.result _ _ _ c.requires
     c.gather-m.ensures.0 a.table.now a.term a.group c.query_direct-direct.new.answers _
-    c.query_by_parts-parts.result c.query_by_parts-parts.ensures.0 c.query_by_parts-parts.ensures.1
+    c.query_by_parts-parts.result c.query_by_parts-parts.ensures.reply c.query_by_parts-parts.ensures.buffer
 
 pub returns : goal.returns
 unfolding row_count
@@ -86,6 +86,6 @@ returns c =
     twice a.columns a.rows.now (marked a.stay.now) c.gather-m.result _ _ _ c.requires
     c.gather-m.ensures.0 a.table.now a.term a.group a.again.now
     c.query_direct-direct.new.answers _ c.query_direct-direct.result c.query_by_parts-parts.result
-    c.query_direct-direct.ensures.0 c.query_direct-direct.ensures.1 c.query_by_parts-parts.ensures.0
-    c.query_by_parts-parts.ensures.1 a.total c.same_answers-one.result c.same_answers.result
+    c.query_direct-direct.ensures.reply c.query_direct-direct.ensures.buffer c.query_by_parts-parts.ensures.reply
+    c.query_by_parts-parts.ensures.buffer a.total c.same_answers-one.result c.same_answers.result
     c.same_answers-one.ensures c.same_answers.ensures

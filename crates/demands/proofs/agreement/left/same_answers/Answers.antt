@@ -3,7 +3,7 @@ use Rattle.demands.proofs.agreement.left.same_answers.Goals as goal
 
 pub same_by_number-requires : goal.same_by_number-requires
 same_by_number-requires c =
-    c.requires c.in-Kept.kept c.in-Kept.is
+    c.requires c.in-Ok.kept c.in-Ok.is
 
-pub returns-in-Kept : goal.returns-in-Kept
-returns-in-Kept c = rw (c.in-Kept.is, c.same_by_number.ensures)
+pub returns-in-Ok : goal.returns-in-Ok
+returns-in-Ok c = rw (c.in-Ok.is, c.same_by_number.ensures)

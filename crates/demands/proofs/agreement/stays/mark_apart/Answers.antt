@@ -37,5 +37,5 @@ returns c =
     let a = c.args in
     marks-apart a.table.now a.columns a.rows.now a.n a.first a.term a.group
     c.query_direct-direct.new.answers c.query_by_parts-parts.new.answers a.stay.now _ _
-    c.query_direct-direct.ensures.1 c.mark_kept.ensures.0 c.query_by_parts-parts.ensures.1
+    c.query_direct-direct.ensures.buffer c.mark_kept.ensures.0 c.query_by_parts-parts.ensures.buffer
     c.mark_kept-2.ensures.0

@@ -1,7 +1,6 @@
 -- `demands::agreement::stays::mark_kept` meets its contract: the first i marks.
 use mathlib.Core.Path.{◌≡◌}
 use mathlib.Core.Bool.{false}
-use Prim.Native.Nat.{◌-◌, ◌≤◌}
 use lib.ListN.{length}
 use Rattle.laws.specs.Wrote.{Wrote}
 use Rattle.demands.specs.Leaving.{holds_own}
@@ -9,7 +8,4 @@ use Rattle.demands.proofs.agreement.stays.mark_kept.Given as goal
 
 abbrev pub invariant-loop-i : goal.invariant-loop-i
 invariant-loop-i l =
-    (l.i ≤ l.count) × (length l.stay ≡ 1024) × Wrote false (holds_own l.entries) l.from l.i l.initial.stay l.stay
-
-abbrev pub decreases-loop-i : goal.decreases-loop-i
-decreases-loop-i l = l.count - l.i
+    (length l.stay ≡ 1024) × Wrote false (holds_own l.entries) l.from l.i l.initial.stay l.stay

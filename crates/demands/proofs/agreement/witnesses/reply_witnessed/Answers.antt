@@ -5,16 +5,16 @@ use Rattle.demands.proofs.agreement.witnesses.reply_witnessed.Goals as goal
 
 pub nonzero_div-rows : goal.nonzero_div-rows
 nonzero_div-rows c =
-    omega (arith, (c.requires c.in-Kept.field-0 c.in-Kept.is).some)
+    omega (arith, (c.requires c.in-Ok.field-0 c.in-Ok.is).some)
 
 pub all_witnessed-requires : goal.all_witnessed-requires
 unfolding row_count
 all_witnessed-requires c =
-    c.requires c.in-Kept.field-0 c.in-Kept.is
+    c.requires c.in-Ok.field-0 c.in-Ok.is
 
-pub returns-in-Refused : goal.returns-in-Refused
-returns-in-Refused c = rw c.in-Refused.is
+pub returns-in-Err : goal.returns-in-Err
+returns-in-Err c = rw c.in-Err.is
 
-pub returns-in-Kept : goal.returns-in-Kept
+pub returns-in-Ok : goal.returns-in-Ok
 unfolding row_count
-returns-in-Kept c = rw c.in-Kept.is c.all_witnessed.ensures
+returns-in-Ok c = rw c.in-Ok.is c.all_witnessed.ensures

@@ -1,29 +1,8 @@
-use mathlib.Core.Path.{refl}
-use native.Mathlib.Omega.{arith}
-use native.Mathlib.Nat.{le_antisymm}
-use lib.ListN.{length-set}
-use mir.Syntax.{w32}
-use mir.Facts.{to_z-of_z}
-use borrow.Author.Rules.{rules, sfits_of}
-use Rattle.laws.specs.Writes.{wrote_none, wrote-store}
-use Rattle.lanes.proofs.Stored.{order-stored}
+use Rattle.std.proofs.Common.{arith, rules}
+use Rattle.lanes.specs.Lanes.{order_lane}
+use Rattle.lanes.proofs.Stretch.{wrote-part}
 use Rattle.lanes.proofs.vetted.base.order_lanes.Goals as goal
 
-pub loop-j-init : goal.loop-j-init
-loop-j-init c = (search rules, refl, wrote_none _ _ _ _)
-
-pub loop-j-preserved : goal.loop-j-preserved
-loop-j-preserved c =
-    let v = c.loop-j.invariant in (
-      omega arith,
-      simp length-set v.1,
-      wrote-store _ _ _ _ _ _ v.2 (omega arith)
-          (order-stored _ _ _ _ c.order.ensures (to_z-of_z {w = w32} (sfits_of c.order-arg-1.given))),
-    )
-
 pub returns : goal.returns
-returns c =
-    let v = c.loop-j.invariant in
-    let q = le_antisymm v.0 c.loop-j-test.false in
-    let x = to_z-of_z c.ranges.x in
-    rw x at (rw q at v.2)
+unfolding order_lane
+returns c = wrote-part _ _ _ _ _ _ _ (omega arith) (omega arith) c.put.auto.out (λ j l o. let h = c.put.ensures j 0 l in search rules)

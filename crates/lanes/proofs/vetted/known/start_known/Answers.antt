@@ -1,23 +1,11 @@
-use mathlib.Core.Path.{refl}
-use native.Mathlib.Omega.{arith}
-use native.Mathlib.Nat.{le_antisymm}
-use lib.ListN.{length-set}
-use borrow.Author.Rules.{rules}
-use Rattle.laws.specs.Writes.{wrote_none, wrote-head}
+use Rattle.std.proofs.Common.{arith, rules, length-take-le}
 use Rattle.lanes.specs.KnownLanes.{start_lane}
+use Rattle.lanes.proofs.Stretch.{wrote-front}
 use Rattle.lanes.proofs.vetted.known.start_known.Goals as goal
 
-pub loop-j-init : goal.loop-j-init
-loop-j-init c = (search rules, refl, wrote_none _ _ _ _)
-
-pub loop-j-preserved : goal.loop-j-preserved
-unfolding start_lane
-loop-j-preserved c =
-    let v = c.loop-j.invariant in
-    (omega arith, simp length-set v.1, wrote-head _ _ _ _ _ v.2 (omega arith) c.started.ensures)
+pub put-requires : goal.put-requires
+put-requires c = let room = c.requires.known in rw length-take-le (search rules)
 
 pub returns : goal.returns
-returns c =
-    let v = c.loop-j.invariant in
-    let q = le_antisymm v.0 c.loop-j-test.false in
-    rw q at v.2
+unfolding start_lane
+returns c = wrote-front _ _ _ _ _ (omega arith) c.put.auto.out (λ j l o. let h = c.put.ensures j 0 l in search rules)

@@ -2,11 +2,8 @@
 use Rattle.lanes.proofs.Picked.{added, picked}
 use Rattle.lanes.proofs.vetted.known.tell_lanes.Goals as goal
 
-pub returns-then-m-eq1 : goal.returns-then-m-eq1
-returns-then-m-eq1 c =
-    added _ _ _ _ _ c.if-m-eq1.true c.add_lanes.ensures
+pub returns-in-Bits : goal.returns-in-Bits
+returns-in-Bits c = added _ _ _ _ _ c.in-Bits.is c.add_lanes.ensures
 
-pub returns : goal.returns
-returns c =
-    picked _ _ _ _ c.requires.0 c.told.ensures c.told-2.ensures c.told-3.ensures _ _ _ _
-    c.pick_lanes.ensures
+pub returns-in_default : goal.returns-in_default
+returns-in_default c = picked _ _ _ _ c.told.ensures c.told-in_default.ensures c.told-in_default-2.ensures _ _ _ _ c.pick_lanes.ensures

@@ -1,22 +1,8 @@
-use mathlib.Core.Path.{refl}
-use native.Mathlib.Omega.{arith}
-use native.Mathlib.Nat.{le_antisymm}
-use borrow.Author.Rules.{rules}
-use Rattle.model.specs.Search.{any_below}
-use Rattle.lanes.proofs.LitStored.{any-more, lit_is}
+use Rattle.std.proofs.Common.{rules}
+use Rattle.lanes.specs.Lit.{lit}
+use Rattle.lanes.proofs.LitStored.{some-is}
 use Rattle.lanes.proofs.vetted.lit.any_lit.Goals as goal
 
-pub loop-j-init : goal.loop-j-init
-unfolding any_below
-loop-j-init c = (search rules, refl)
-
-pub loop-j-preserved : goal.loop-j-preserved
-loop-j-preserved c =
-    let v = c.loop-j.invariant in
-    (omega arith, any-more _ _ v.1 (lit_is _ _))
-
 pub returns : goal.returns
-returns c =
-    let v = c.loop-j.invariant in
-    let q = le_antisymm v.0 c.loop-j-test.false in
-    rw q at v.1
+unfolding lit
+returns c = some-is _ _ (λ e. let w = c.some.ensures.found e in (w.0, w.1, let h = w.2 in search rules)) (λ e j l. let h = c.some.ensures.none e j l in search rules)

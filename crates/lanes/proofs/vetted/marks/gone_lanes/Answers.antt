@@ -1,25 +1,9 @@
-use mathlib.Core.Path.{refl}
-use native.Mathlib.Omega.{arith}
-use native.Mathlib.Nat.{le_antisymm}
-use lib.ListN.{length-set}
-use borrow.Author.Rules.{rules}
-use Rattle.laws.specs.Writes.{wrote_none, wrote-store}
-use Rattle.lanes.proofs.MarksStored.{gone-is}
+use Rattle.std.proofs.Common.{arith, rules}
+use Rattle.lanes.specs.Lit.{lit, hit}
+use Rattle.lanes.specs.Marks.{gone_lane}
+use Rattle.lanes.proofs.Stretch.{wrote-part}
 use Rattle.lanes.proofs.vetted.marks.gone_lanes.Goals as goal
 
-pub loop-j-init : goal.loop-j-init
-loop-j-init c = (search rules, refl, wrote_none _ _ _ _)
-
-pub loop-j-preserved : goal.loop-j-preserved
-loop-j-preserved c =
-    let v = c.loop-j.invariant in (
-      omega arith,
-      simp length-set v.1,
-      wrote-store _ _ _ _ _ _ v.2 (omega arith) (gone-is _ _ _ _ _ _ (v.2.above _ (omega arith))),
-    )
-
 pub returns : goal.returns
-returns c =
-    let v = c.loop-j.invariant in
-    let q = le_antisymm v.0 c.loop-j-test.false in
-    rw q at v.2
+unfolding gone_lane hit lit
+returns c = wrote-part _ _ _ _ _ _ _ (omega arith) (omega arith) c.put.auto.out (λ j l o. let h = c.put.ensures j 0 l in search (rules, o))

@@ -1,10 +1,6 @@
--- `plan::vetted::beneath::beneath` meets its contract.
-use Prim.Native.Nat.{◌+◌, ◌≤◌}
+-- `plan::vetted::beneath::beneath` meets its contract: the parts of the marked records from k on are marked.
 use Rattle.plan.specs.Beneath.{MarkedFrom}
 use Rattle.plan.proofs.vetted.beneath.beneath.Given as goal
 
 abbrev pub invariant-loop-k : goal.invariant-loop-k
-invariant-loop-k l = (l.k ≤ l.term + 1) × MarkedFrom l.table l.term l.k l.exits l.marks
-
-abbrev pub decreases-loop-k : goal.decreases-loop-k
-decreases-loop-k l = l.k
+invariant-loop-k l = MarkedFrom l.of.table.now l.term l.k l.exits l.marks

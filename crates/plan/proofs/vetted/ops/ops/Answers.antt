@@ -1,34 +1,25 @@
 use mathlib.Core.Path.{refl, ◌∙◌, ap}
+use mathlib.Core.Logic.{⊎_elim}
 use native.Mathlib.Omega.{arith}
-use Rattle.plan.specs.Ops.{op_of, left_of, right_of}
-use Rattle.plan.proofs.Put.{put-length, put-more}
+use lib.ListN.{length-set}
+use lib.Seq.{get_or-set_same, get_or-set_other}
+use Rattle.laws.specs.Search.{lt-suc-cases}
+use Rattle.plan.specs.Ops.{step_of}
 use Rattle.plan.proofs.vetted.ops.ops.Goals as goal
 
 pub loop-k-init : goal.loop-k-init
-loop-k-init c = (omega arith, refl, λ h l. absurd (omega (arith, l)))
-
-pub decoded-r-requires : goal.decoded-r-requires
-decoded-r-requires c =
-    (omega arith, c.requires.1)
-
-pub put-requires : goal.put-requires
-put-requires c =
-    (omega arith, c.loop-k.invariant.1)
+loop-k-init c = (refl, λ h d l. absurd (omega (arith, l)))
 
 pub loop-k-preserved : goal.loop-k-preserved
 loop-k-preserved c =
-    let a = c.args in
-    let v = c.loop-k.invariant in
-    let e = c.decoded-r.ensures in (
-      omega arith,
-      rw c.put.ensures (put-length c.loop-k.ops c.loop-k.k _ _ _ ∙ v.1),
-      rw c.put.ensures
-          (put-more a.table.now c.loop-k.ops c.loop-k.k v.1 (omega arith)
-          (c.op_of.ensures ∙ ap op_of e) (c.left_of.ensures ∙ ap left_of e)
-          (c.right_of.ensures ∙ ap right_of e) v.2),
+    let k = c.loop-k.k in
+    let v = c.loop-k.invariant in (
+      simp length-set v.0,
+      λ h d l. ⊎_elim
+          (λ o. get_or-set_other c.loop-k.steps k h _ d (λ q. omega (arith, o, q)) ∙ v.1 h d o)
+          (λ q. rw q (get_or-set_same c.loop-k.steps k _ d (omega (arith, v.0)) ∙ c.step_of.ensures ∙ ap step_of c.record.ensures))
+          (lt-suc-cases h k (omega (arith, l))),
     )
 
 pub returns : goal.returns
-returns c =
-    let v = c.loop-k.invariant in
-    record { room = v.1; each = λ h l. v.2 h (omega arith) }
+returns c = let v = c.loop-k.invariant in record { room = v.0; each = λ k d l. v.1 k d (omega (arith, l)) }

@@ -1,13 +1,12 @@
--- `plan::vetted::ops::ops` meets its contract: the entries of the records below k.
+-- `plan::vetted::ops::ops` meets its contract: the steps of the records below k.
 use mathlib.Core.Path.{◌≡◌}
-use Prim.Native.Nat.{ℕ, ◌+◌, ◌-◌, ◌<◌, ◌≤◌}
-use lib.ListN.{length}
-use Rattle.plan.specs.Ops.{OpAt}
+use Prim.Native.Nat.{ℕ, ◌<◌}
+use lib.ListN.{length, get_or}
+use Rattle.model.specs.Record.{record_at}
+use Rattle.plan.specs.declared.vetted.ops.{Step.Step}
+use Rattle.plan.specs.Ops.{step_of}
 use Rattle.plan.proofs.vetted.ops.ops.Given as goal
 
 abbrev pub invariant-loop-k : goal.invariant-loop-k
 invariant-loop-k l =
-    (l.k ≤ l.term + 1) × (length l.ops ≡ 512) × ((h : ℕ) → h < l.k → OpAt l.table l.ops h)
-
-abbrev pub decreases-loop-k : goal.decreases-loop-k
-decreases-loop-k l = l.term + 1 - l.k
+    (length l.steps ≡ 128) × ((h : ℕ) (d : Step) → h < l.k → get_or l.steps h d ≡ step_of (record_at l.of.table.now h))

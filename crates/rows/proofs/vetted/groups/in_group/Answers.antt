@@ -17,16 +17,6 @@ pub loop-left-init : goal.loop-left-init
 unfolding any_below
 loop-left-init c = (search rules, search rules, left-none c.args.group, refl)
 
-pub overflow_cast-at : goal.overflow_cast-at
-overflow_cast-at c =
-    let w = lowest 8 c.loop-left.left (omega arith) (omega (arith, c.loop-left.invariant.1)) in
-    omega (arith, w.within)
-
-pub overflow_add-at : goal.overflow_add-at
-overflow_add-at c =
-    let w = lowest 8 c.loop-left.left (omega arith) (omega (arith, c.loop-left.invariant.1)) in
-    omega (arith, w.within, c.requires.1)
-
 pub returns-then-n-at : goal.returns-then-n-at
 returns-then-n-at c =
     let a = c.args in
@@ -34,7 +24,7 @@ returns-then-n-at c =
     let w = lowest 8 c.loop-left.left (omega arith) (omega (arith, c.loop-left.invariant.1)) in
     let t = count_trailing_zeros 8 c.loop-left.left in
     let skip = differs-skip a.group c.loop-left.c t a.x.now a.y.now v.2 w.unset v.3 in
-    sym (equal-in-past a.group (c.loop-left.c + t) (length a.x.now) a.x.now a.y.now refl (sym c.requires.0) c.requires.1
+    sym (equal-in-past a.group (c.loop-left.c + t) (length a.x.now) a.x.now a.y.now refl (sym c.requires.same) c.requires.few
     c.if-n-at.true skip)
 
 pub returns-then-x-at : goal.returns-then-x-at
@@ -48,21 +38,8 @@ returns-then-x-at c =
     eq-bits {a = cell a.x.now i} {b = cell a.y.now i}
     (record { sfits = c.t12-1.given }) (record { sfits = c.t15-1.given }) in
     let d = differs-set a.group c.loop-left.c t a.x.now a.y.now c.loop-left.invariant.2 w.set in
-    sym (unequal-in a.group i a.x.now a.y.now (omega (arith, c.requires.1))
+    sym (unequal-in a.group i a.x.now a.y.now (omega (arith, c.requires.few))
     (d ∙ ap not (sym e ∙ ne_eqb _ _ c.if-x-at.true)))
-
-pub overflow_cast-left : goal.overflow_cast-left
-overflow_cast-left c =
-    let w = lowest 8 c.loop-left.left (omega arith) (omega (arith, c.loop-left.invariant.1)) in
-    omega (arith, w.within)
-
-pub overflow_shr-left : goal.overflow_shr-left
-overflow_shr-left c =
-    (lowest 8 c.loop-left.left (omega arith) (omega (arith, c.loop-left.invariant.1))).within
-
-pub loop-left-smaller : goal.loop-left-smaller
-loop-left-smaller c =
-    omega (arith, div-le_self c.loop-left.left (2 ^ count_trailing_zeros 8 c.loop-left.left))
 
 pub loop-left-preserved : goal.loop-left-preserved
 unfolding cell

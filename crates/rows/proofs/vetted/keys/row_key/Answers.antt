@@ -9,26 +9,26 @@ use Rattle.rows.specs.Places.{row_in, row-length, cell-run}
 use Rattle.rows.proofs.vetted.keys.row_key.Goals as goal
 
 pub overflow_mul-i : goal.overflow_mul-i
-overflow_mul-i c = omega (arith, row_in _ _ _ c.requires.0 c.args.i c.requires.1)
+overflow_mul-i c = omega (arith, row_in _ _ _ c.requires.whole c.args.i c.requires.within)
 
 pub overflow_add-i : goal.overflow_add-i
-overflow_add-i c = omega (arith, row_in _ _ _ c.requires.0 c.args.i c.requires.1)
+overflow_add-i c = omega (arith, row_in _ _ _ c.requires.whole c.args.i c.requires.within)
 
-pub offset_bounds-rows-i : goal.offset_bounds-rows-i
-offset_bounds-rows-i c = omega (arith, row_in _ _ _ c.requires.0 c.args.i c.requires.1)
+pub offset_bounds-cells-i : goal.offset_bounds-cells-i
+offset_bounds-cells-i c = omega (arith, row_in _ _ _ c.requires.whole c.args.i c.requires.within)
 
-pub bounds-rows-i : goal.bounds-rows-i
-bounds-rows-i c = omega (arith, row_in _ _ _ c.requires.0 c.args.i c.requires.1)
+pub bounds-cells-i : goal.bounds-cells-i
+bounds-cells-i c = omega (arith, row_in _ _ _ c.requires.whole c.args.i c.requires.within)
 
 pub returns-then-c-columns : goal.returns-then-c-columns
 returns-then-c-columns c =
-    let a = c.args in
+    let r = c.args in
     c.key.ensures
     ∙ ap key_of
     (to_z-of_z {w = w32} (sfits_of c.key-arg-1.given)
-    ∙ cell-run a.columns a.rows.now a.i a.c c.if-c-columns.true)
+    ∙ cell-run r.columns r.cells.now c.args.i c.args.c c.if-c-columns.true)
 
-pub returns : goal.returns
-returns c =
-    let a = c.args in
-    key-past _ a.c (rw (row-length a.columns a.rows.now a.n c.requires.0 a.i c.requires.1) c.if-c-columns.false)
+pub returns-else-c-columns : goal.returns-else-c-columns
+returns-else-c-columns c =
+    let r = c.args in
+    key-past _ c.args.c (rw (row-length r.columns r.cells.now r.n c.requires.whole c.args.i c.requires.within) c.if-c-columns.false)

@@ -1,10 +1,6 @@
 -- `terms::vetted::closure::closure` meets its contract. The array is the closure of the edges before record `i`.
-use Prim.Native.Nat.{◌-◌, ◌≤◌, ◌<◌}
 use Rattle.terms.specs.Closure.{Closure}
 use Rattle.terms.proofs.vetted.closure.closure.Given as goal
 
 abbrev pub invariant-loop-i : goal.invariant-loop-i
-invariant-loop-i l = (l.j < l.i) × (l.i ≤ l.k) × Closure l.table l.j l.i l.g
-
-abbrev pub decreases-loop-i : goal.decreases-loop-i
-decreases-loop-i l = l.k - l.i
+invariant-loop-i l = Closure l.table l.j l.i l.g

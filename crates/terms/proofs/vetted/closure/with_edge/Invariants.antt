@@ -2,14 +2,11 @@
 use mathlib.Core.Path.{◌≡◌}
 use mathlib.Core.Bool.{false}
 use mathlib.Core.List.{[]}
-use Prim.Native.Nat.{ℕ, ◌-◌, ◌≤◌, ◌<◌}
+use Prim.Native.Nat.{ℕ, ◌<◌}
 use lib.ListN.{length, get_or}
 use Rattle.terms.specs.Closure.{cell_with}
 use Rattle.terms.proofs.vetted.closure.with_edge.Given as goal
 
 abbrev pub invariant-loop-a : goal.invariant-loop-a
 invariant-loop-a l =
-    (l.a ≤ 32) × (length l.h ≡ 32) × ((i : ℕ) → i < l.a → (b : ℕ) → b < 32 → get_or (get_or l.h i []) b false ≡ cell_with l.x l.g l.e i b)
-
-abbrev pub decreases-loop-a : goal.decreases-loop-a
-decreases-loop-a l = 32 - l.a
+    (length l.h ≡ 32) × ((i : ℕ) → i < l.a → (b : ℕ) → b < 32 → get_or (get_or l.h i []) b false ≡ cell_with l.x l.g l.e i b)

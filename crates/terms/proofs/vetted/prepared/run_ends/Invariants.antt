@@ -9,8 +9,5 @@ use Rattle.terms.proofs.vetted.prepared.run_ends.Given as goal
 
 abbrev pub invariant-loop-k : goal.invariant-loop-k
 invariant-loop-k l =
-    (l.k ≤ l.n) × (length l.ends ≡ 128) × FirstFrom l.table l.k l.n l.next
+    (length l.ends ≡ 128) × FirstFrom l.table l.k l.n l.next
     × ((j : ℕ) → l.k ≤ j → j < l.n → NextTerm l.table j l.n (get_or l.ends j 0))
-
-abbrev pub decreases-loop-k : goal.decreases-loop-k
-decreases-loop-k l = l.k

@@ -1,24 +1,15 @@
-use mathlib.Core.Path.{refl}
-use native.Mathlib.Nat.{le_antisymm}
-use native.Mathlib.Numerals.{add-one}
-use native.Mathlib.Omega.{arith}
-use borrow.Author.Rules.{rules}
-use Rattle.model.specs.Search.{any_below}
+-- `table::vetted::asked::query::fails_group` meets its contract.
+use Rattle.std.proofs.Common.{◌≡◌, ℕ, Bool, ◌&&◌, true, false, refl, leb, rules, tests, arith}
+use Rattle.std.proofs.lemmas.Iterator.{cases_from_any, YieldsList-from_range}
 use Rattle.model.specs.Bytes.{bit}
 use Rattle.model.specs.Query.{fails_group}
+use Rattle.terms.proofs.AnyBelow.{any-range}
 use Rattle.table.proofs.vetted.asked.query.fails_group.Goals as goal
 
-pub loop-j-init : goal.loop-j-init
-unfolding any_below
-loop-j-init c = (search rules, refl)
-
-pub loop-j-preserved : goal.loop-j-preserved
-unfolding any_below bit
-loop-j-preserved c = (omega arith, rw (add-one, c.loop-j.invariant.1))
-
 pub returns : goal.returns
-unfolding fails_group
+unfolding fails_group bit
 returns c =
-    let v = c.loop-j.invariant in
-    let q = le_antisymm v.0 c.loop-j-test.false in
-    rw q at v.1
+    let at : ℕ → Bool = λ j. bit c.args.group j && leb c.args.columns j in
+    any-range 8 _ at
+    (cases_from_any _ _ _ (λ j. at j ≡ true) (λ j. at j ≡ false) c.any.ensures.ran
+    (YieldsList-from_range 0 8 8 refl (omega arith)) (λ x q k. search (rules, tests)) (λ x q k. search (rules, tests)))

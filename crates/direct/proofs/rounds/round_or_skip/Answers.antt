@@ -1,8 +1,0 @@
--- `direct::rounds::round_or_skip` meets its contract.
-use Rattle.laws.specs.Rounds.{turn-gone}
-use Rattle.direct.proofs.rounds.round_or_skip.Goals as goal
-
-pub returns-else-gone-i-eq0 : goal.returns-else-gone-i-eq0
-returns-else-gone-i-eq0 c =
-    let p = c.requires in
-    (turn-gone _ _ _ _ c.if-gone-i-eq0.false p.3, p.4, p.2.of_codes)
