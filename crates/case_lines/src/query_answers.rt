@@ -27,11 +27,11 @@ pub fn clear(buffer: &mut [u16]) {
     buffer.fill(UNTOUCHED);
 }
 
-// Whether the answer of that engine for that group byte is another one. Says both if so.
+// Whether the answer of that engine for that group is another one. Says both if so, and the group, which may be any number.
 pub fn apart(
     rt: &impl Print,
     known: Given,
-    group: u8,
+    group: u64,
     engine: Engine,
     given: Given,
 ) -> io::Result<bool> {

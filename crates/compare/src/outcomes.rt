@@ -1,12 +1,12 @@
 // Two rows compared under a term record of an accepted table: one loop over the records upward from 0 to the asked term, with
 // a code for each. Codes: same 0, first better 1, second better 2, unranked 3.
-ghost use Rattle.std.specs.Prelude.{◌≡◌, ◌≤◌, get_or};
+ghost use Rattle.std.specs.Prelude.{◌≡◌, get_or};
 ghost use Rattle.model.specs.Record.{record_at};
 ghost use Rattle.model.specs.Term.{term_at};
 ghost use Rattle.model.specs.Compare.{outcome};
 ghost use Rattle.laws.specs.Runs.{values_between};
 ghost use Rattle.laws.specs.Codes.{outcome_of, joined_code};
-ghost use Rattle.compare.specs.Rows.{Ready, PartsBelow, record_code, compound_code};
+ghost use Rattle.compare.specs.Rows.{Ready, RecordReady, PartsBelow, record_code, compound_code};
 
 use crate::vetted::base_terms::base_code;
 use model::{CompoundTerm, Outcome, Pair, Record};
@@ -32,36 +32,52 @@ impl Comparison<'_, '_> {
     {
         let mut codes = [0u8; 128];
         for k in 0..=self.term {
-            codes[k as usize] = self.record_code(k, &codes);
+            codes[k as usize] = record_code(
+                &self.of,
+                self.ends,
+                self.reach,
+                &codes,
+                k,
+                self.first,
+                self.second,
+            );
         }
         outcome_of(codes[self.term as usize])
     }
+}
 
-    // The code of record k from the rows, or from the codes of its parts.
-    fn record_code(&self, k: u8, codes: &[u8; 128]) -> u8
-        requires { k ≤ self.now.term }
-        ensures { result ≡ record_code (record_at self.now.of.table.now k)
-            (values_between self.now.of.table.now k (get_or self.now.ends.now k 0))
-            (λ i. get_or codes.now i 0) self.now.first.now self.now.second.now }
-    {
-        match self.of.record(k) {
-            Record::Base(column, b) => {
-                let run = Run {
-                    of: self.of,
-                    k,
-                    e: self.ends[k as usize],
-                };
-                let c = column as usize;
-                base_code(&run, self.reach, b, self.first[c], self.second[c])
-            }
-            Record::Compound(c) => compound_code(c, codes),
-            Record::Value(_) | Record::Unknown => 0,
+// The code of record k from the rows, or from the codes of its parts.
+fn record_code(
+    of: &Numbered,
+    ends: &[u8; 128],
+    reach: &[[bool; 32]],
+    codes: &[u8; 128],
+    k: u8,
+    first: &[i32],
+    second: &[i32],
+) -> u8
+    requires { RecordReady of.now.table.now of.now.numbers.now ends.now reach.now k first.now second.now }
+    ensures { result ≡ record_code (record_at of.now.table.now k)
+        (values_between of.now.table.now k (get_or ends.now k 0))
+        (λ i. get_or codes.now i 0) first.now second.now }
+{
+    match of.record(k) {
+        Record::Base(column, b) => {
+            let run = Run {
+                of: *of,
+                k,
+                e: ends[k as usize],
+            };
+            let c = column as usize;
+            base_code(&run, reach, b, first[c], second[c])
         }
+        Record::Compound(c) => compound_code(c, codes),
+        Record::Value(_) | Record::Unknown => 0,
     }
 }
 
 // The code of a compound from those of its parts.
-fn compound_code(c: CompoundTerm, codes: &[u8; 128]) -> u8
+pub fn compound_code(c: CompoundTerm, codes: &[u8; 128]) -> u8
     requires { PartsBelow 128 c }
     ensures { result ≡ compound_code c (λ i. get_or codes.now i 0) }
 {

@@ -10,7 +10,7 @@ ghost use Rattle.plan.specs.Ops.{step_of};
 ghost use Rattle.pairs.specs.Pairs.{RecordOf, CodesBelow, is_base, op_code};
 
 use crate::pair::Pair;
-use crate::values::by_rank;
+use crate::values::{by_rank, explicit_code};
 use plan::vetted::ops::{Op, Step};
 use terms::codes::{prior_code, turned_code};
 
@@ -46,7 +46,10 @@ impl Pair<'_> {
         let x = self.of.rank_at(self.i, k);
         let y = self.of.rank_at(self.j, k);
         match step.op {
-            Op::Places => self.of.explicit_code(k, v, w, x, y),
+            Op::Places => {
+                let e = self.of.ends[k as usize];
+                explicit_code(self.of.table, self.of.reach, k, e, v, w, x, y)
+            }
             _ => by_rank(x, y),
         }
     }

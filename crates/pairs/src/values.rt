@@ -18,20 +18,28 @@ pub fn by_rank(x: i32, y: i32) -> u8
     ((x <= y) as u8) + 2 * ((y <= x) as u8)
 }
 
-impl Pairs<'_> {
-    // By the places of v and w, which are their ranks x and y under EXPLICIT term k.
-    pub fn explicit_code(&self, k: u8, v: i32, w: i32, x: i32, y: i32) -> u8
-        requires few { k < 128 }
-        requires ranked { TwoRanked self.now.table.now self.now.reach.now k (get_or self.now.ends.now k 0) Explicit v w x y }
-        ensures { result ≡ apart_code Explicit (values_between self.now.table.now k (get_or self.now.ends.now k 0)) v w }
-    {
-        let e = self.ends[k as usize];
-        let start = 2 * (k as usize) + 2;
-        let p = start + x as usize;
-        let q = start + y as usize;
-        apart_code(leads(self.reach, k, e, q, p), leads(self.reach, k, e, p, q))
-    }
+// By the places of v and w, which are their ranks x and y under EXPLICIT term k, whose values are the records from k + 1 to
+// before e.
+pub fn explicit_code(
+    table: &[u8],
+    reach: &[[bool; 32]],
+    k: u8,
+    e: u8,
+    v: i32,
+    w: i32,
+    x: i32,
+    y: i32,
+) -> u8
+    requires { TwoRanked table.now reach.now k e Explicit v w x y }
+    ensures { result ≡ apart_code Explicit (values_between table.now k e) v w }
+{
+    let start = 2 * (k as usize) + 2;
+    let p = start + x as usize;
+    let q = start + y as usize;
+    apart_code(leads(reach, k, e, q, p), leads(reach, k, e, p, q))
+}
 
+impl Pairs<'_> {
     // The rank of row i under record k.
     pub fn rank_at(&self, i: usize, k: u8) -> i32
         requires row { i < self.now.rows.n }

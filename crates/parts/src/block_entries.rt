@@ -94,8 +94,9 @@ fn by_blocks(blocks: &Blocks, answers: &mut [u16]) -> u16
 
 impl Kept<'_> {
     // Which row is named for each row that is gone. Lanes that are no rows count as named.
-    fn entries(&self, first: &[u16; 1024], codes: &mut [u8; 8192], answers: &mut [u16]) -> u16
+    fn entries(&self, first: &[u16; 1024], codes: &mut [u8], answers: &mut [u16]) -> u16
         requires firsts { Firsts (beats_of self.now.of) self.now.of.rows.n self.now.gone.now first.now }
+        requires codes { 8192 ≤ length codes.old }
         requires answers { self.now.of.rows.n ≤ length answers.old }
         ensures { Selected (beats_of self.now.of) self.now.of.rows.n answers.old answers.new result }
     {

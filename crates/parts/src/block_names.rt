@@ -1,5 +1,5 @@
 // One block of a kept row's naming.
-ghost use Rattle.std.specs.Prelude.{◌≡◌, ◌+◌, ◌*◌, ◌<◌, get_or};
+ghost use Rattle.std.specs.Prelude.{◌≡◌, ◌+◌, ◌*◌, ◌≤◌, ◌<◌, length, get_or};
 ghost use Rattle.blocks.specs.Alive.{Beyond};
 ghost use Rattle.parts.specs.Beats.{beats_of};
 ghost use Rattle.parts.specs.Naming.{Naming};
@@ -10,9 +10,10 @@ use lanes::vetted::marks::name_lanes;
 
 impl Kept<'_> {
     // Row i, which is kept, names the rows of block b that it beats and that have no name.
-    pub fn name_block(&self, i: usize, b: usize, by: &mut [u16; 1024], codes: &mut [u8; 8192])
+    pub fn name_block(&self, i: usize, b: usize, by: &mut [u16; 1024], codes: &mut [u8])
         requires row { i < self.now.of.rows.n }
         requires block { b * 64 < self.now.of.rows.n }
+        requires codes { 8192 ≤ length codes.old }
         requires kept { get_or self.now.gone.now i 0 ≡ 0 }
         requires beyond { Beyond self.now.of.rows.n by.old }
         requires naming { Naming (beats_of self.now.of) self.now.of.rows.n i (b * 64) by.old }

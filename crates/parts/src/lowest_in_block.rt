@@ -10,9 +10,10 @@ use lanes::vetted::lit::{any_hit, any_lit};
 
 impl Kept<'_> {
     // The lane of the lowest kept row of block b that beats row i, if there is one.
-    pub fn better_in_block(&self, i: usize, b: usize, codes: &mut [u8; 8192]) -> Option<usize>
+    pub fn better_in_block(&self, i: usize, b: usize, codes: &mut [u8]) -> Option<usize>
         requires row { i < self.now.of.rows.n }
         requires block { b * 64 < self.now.of.rows.n }
+        requires codes { 8192 ≤ length codes.old }
         ensures { LowestIn (beats_of self.now.of) self.now.of.rows.n i (b * 64) result }
     {
         let gone = self.gone;

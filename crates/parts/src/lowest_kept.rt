@@ -1,5 +1,5 @@
 // The lowest kept row that beats a row: the row goes through the blocks of 64 rows until one has a kept row that beats it.
-ghost use Rattle.std.specs.Prelude.{◌≡◌, ◌<◌};
+ghost use Rattle.std.specs.Prelude.{◌≡◌, ◌≤◌, ◌<◌, length};
 ghost use Rattle.std.specs.Option.{IfSome, IfNone};
 ghost use Rattle.laws.specs.Named.{named, Named};
 ghost use Rattle.parts.specs.Beats.{beats_of};
@@ -8,8 +8,9 @@ use crate::kept::Kept;
 
 impl Kept<'_> {
     // Every row that is gone and has no name gets one, row after row.
-    pub fn by_rows(&self, by: &mut [u16; 1024], codes: &mut [u8; 8192])
-        requires { Named (beats_of self.now.of) self.now.of.rows.n 0 by.old }
+    pub fn by_rows(&self, by: &mut [u16; 1024], codes: &mut [u8])
+        requires codes { 8192 ≤ length codes.old }
+        requires named { Named (beats_of self.now.of) self.now.of.rows.n 0 by.old }
         ensures { Named (beats_of self.now.of) self.now.of.rows.n self.now.of.rows.n by.new }
     {
         for i in 0..self.of.rows.n {
@@ -23,8 +24,9 @@ impl Kept<'_> {
 
     // The lowest kept row that beats row i, if there is one.
     #[tactic(auto, using(crate::proofs::ByBlocks::none_more, crate::proofs::ByBlocks::lowest_here, crate::proofs::ByBlocks::lowest_none))]
-    fn lowest(&self, i: usize, codes: &mut [u8; 8192]) -> Option<u16>
-        requires { i < self.now.of.rows.n }
+    fn lowest(&self, i: usize, codes: &mut [u8]) -> Option<u16>
+        requires row { i < self.now.of.rows.n }
+        requires codes { 8192 ≤ length codes.old }
         ensures some { IfSome result (λ name. name ≡ named (beats_of self.now.of) self.now.of.rows.n self.now.of.rows.n i) }
         ensures none { IfNone result (named (beats_of self.now.of) self.now.of.rows.n self.now.of.rows.n i ≡ 1024) }
     {

@@ -1,5 +1,5 @@
 // One block of a row's round. `gone` has 0 for a row that is not gone, `first` the row in whose round a row was dropped.
-ghost use Rattle.std.specs.Prelude.{◌+◌, ◌*◌, ◌<◌};
+ghost use Rattle.std.specs.Prelude.{◌+◌, ◌*◌, ◌≤◌, ◌<◌, length};
 ghost use Rattle.laws.specs.Elimination.{Turn, Met};
 ghost use Rattle.laws.specs.Firsts.{Firsts};
 ghost use Rattle.rows.specs.Keys.{Keyed};
@@ -18,10 +18,11 @@ pub fn meet_block(
     b: usize,
     gone: &mut [u8; 1024],
     first: &mut [u16; 1024],
-    codes: &mut [u8; 8192],
+    codes: &mut [u8],
 ) -> bool
     requires row { i < blocks.now.rows.n }
     requires block { b * 64 < blocks.now.rows.n }
+    requires codes { 8192 ≤ length codes.old }
     requires turn { Turn (beats_of blocks.now) blocks.now.rows.n i (b * 64) gone.old }
     requires above { Above blocks.now.rows.n gone.old }
     requires firsts { Firsts (beats_of blocks.now) blocks.now.rows.n gone.old first.old }

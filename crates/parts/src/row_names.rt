@@ -1,5 +1,5 @@
 // A kept row names the rows that it beats and that have no name; a row that is gone names none.
-ghost use Rattle.std.specs.Prelude.{◌≡◌, ◌+◌, ◌<◌, get_or};
+ghost use Rattle.std.specs.Prelude.{◌≡◌, ◌+◌, ◌≤◌, ◌<◌, length, get_or};
 ghost use Rattle.blocks.specs.Alive.{Beyond};
 ghost use Rattle.laws.specs.Named.{Named};
 ghost use Rattle.parts.specs.Beats.{beats_of};
@@ -9,7 +9,8 @@ use crate::kept::Kept;
 impl Kept<'_> {
     // All kept rows name, in rising order.
     #[tactic(auto, using(crate::proofs::Names::named_gone))]
-    pub fn by_kept_rows(&self, by: &mut [u16; 1024], codes: &mut [u8; 8192])
+    pub fn by_kept_rows(&self, by: &mut [u16; 1024], codes: &mut [u8])
+        requires codes { 8192 ≤ length codes.old }
         requires beyond { Beyond self.now.of.rows.n by.old }
         requires named { Named (beats_of self.now.of) self.now.of.rows.n 0 by.old }
         ensures { Named (beats_of self.now.of) self.now.of.rows.n self.now.of.rows.n by.new }
@@ -22,8 +23,9 @@ impl Kept<'_> {
     }
 
     // Row i, which is kept, names the rows that it beats.
-    fn name_row(&self, i: usize, by: &mut [u16; 1024], codes: &mut [u8; 8192])
+    fn name_row(&self, i: usize, by: &mut [u16; 1024], codes: &mut [u8])
         requires row { i < self.now.of.rows.n }
+        requires codes { 8192 ≤ length codes.old }
         requires kept { get_or self.now.gone.now i 0 ≡ 0 }
         requires beyond { Beyond self.now.of.rows.n by.old }
         requires named { Named (beats_of self.now.of) self.now.of.rows.n i by.old }

@@ -31,6 +31,12 @@ pub all-3 : (n m o : ℕ) (p : ℕ → ℕ → ℕ → Bool) → any_below n (λ
 all-3 n m o p none a b c l k h =
     all-2 m o (p a) (none-e n (λ a. any_below m (λ b. any_below o (λ c. not (p a b c)))) none a l) b c k h
 
+pub all-4 : (n m o q : ℕ) (p : ℕ → ℕ → ℕ → ℕ → Bool)
+    → any_below n (λ a. any_below m (λ b. any_below o (λ c. any_below q (λ d. not (p a b c d))))) ≡ false
+    → (a b c d : ℕ) → a < n → b < m → c < o → d < q → p a b c d ≡ true
+all-4 n m o q p none a b c d l k h i =
+    all-3 m o q (p a) (none-e n (λ a. any_below m (λ b. any_below o (λ c. any_below q (λ d. not (p a b c d))))) none a l) b c d k h i
+
 -- An implication as a test.
 unfoldable pub implies : Bool → Bool → Bool
 implies a b = not a || b

@@ -1,4 +1,5 @@
 pub mod Bits
+pub mod Numbers
 pub mod Masks
 pub mod Parts
 pub mod Known

@@ -66,3 +66,30 @@ own_mask Bits = Nothing
 own_mask TurnedBits = Nothing
 own_mask All = All
 own_mask TurnedAll = TurnedAll
+
+-- ---- masks as numbers
+
+-- The number of a mask.
+abbrev pub mask_number : Exit → ℕ
+mask_number Nothing = 0
+mask_number Bits = 1
+mask_number TurnedBits = 2
+mask_number All = 5
+mask_number TurnedAll = 6
+
+-- What a record of this mask and code c tells, by the mask's number m. A number of no mask tells nothing.
+unfoldable pub told_by_number : ℕ → ℕ → ℕ
+told_by_number m c =
+    cond (eqb m 1) c (cond (eqb m 2) (turned_code c) (cond (eqb m 5) (wholly_code c) (cond (eqb m 6) (wholly_code (turned_code c)) 0)))
+
+-- The mask of the part of a DUAL,
+unfoldable pub turned_number : ℕ → ℕ
+turned_number m = cond (eqb m 1) 2 (cond (eqb m 2) 1 (cond (eqb m 5) 6 (cond (eqb m 6) 5 0)))
+
+-- that of a part of a PARETO or BOTH,
+unfoldable pub part_number : ℕ → ℕ
+part_number m = cond (eqb m 5) 1 (cond (eqb m 6) 2 m)
+
+-- and what is left to the PARETO or BOTH itself.
+unfoldable pub own_number : ℕ → ℕ
+own_number m = cond (ltb m 4) 0 m

@@ -64,7 +64,7 @@ fn every_group(
     for group in first..=last {
         for engine in [Engine::Direct, Engine::Parts] {
             let given = query.by(engine, group, other);
-            if apart(rt, known, group, engine, given)? {
+            if apart(rt, known, u64::from(group), engine, given)? {
                 return Ok(());
             }
         }

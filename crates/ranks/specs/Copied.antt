@@ -12,14 +12,18 @@ after m at p g l =
     (λ t. ltb-false p (at + m) t)
     (on-or-off (ltb p (at + m)))
 
+stays : (f : ℕ → ℤ) (m at : ℕ) (old new : List ℤ) → Wrote (pos 0) f at m old new → (p : ℕ)
+    → ((j : ℕ) → j < m → p ≡ at + j → ⊥) → get_or new p (pos 0) ≡ get_or old p (pos 0)
+stays f m at old new w p g =
+    ⊎_elim (λ t. w.below p (ltb-true p at t)) (λ t. w.above p (after m at p g (ltb-false p at t))) (on-or-off (ltb p at))
+
 module _ (Q : ℕ → ℤ → Type 0) (m at : ℕ) (old new : List ℤ) where
   -- What is written is right, and the rest is as it was.
   pub wrote-stretch : (f : ℕ → ℤ) → ((j : ℕ) → j < m → Q j (f j)) → Wrote (pos 0) f at m old new → Stretch Q m at old new
   wrote-stretch f h w =
       record {
         here = λ j l. rw (w.made j l) (h j l);
-        kept = λ p g.
-            ⊎_elim (λ t. w.below p (ltb-true p at t)) (λ t. w.above p (after m at p g (ltb-false p at t))) (on-or-off (ltb p at));
+        kept = stays f m at old new w;
       }
 
   -- Entries made from copied cells are made from what was copied: P says what the cells are.

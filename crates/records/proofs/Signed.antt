@@ -1,8 +1,8 @@
 -- Signed numbers of 32 bits as the machine has them: a local holds bits, which an operation reads back. Assumes nothing.
-use mathlib.Core.Path.{◌≡◌, refl, sym, ap, ap₂, ◌∙◌}
+use mathlib.Core.Path.{◌≡◌, refl, sym, ap, ap₂, ◌∙◌, subst}
 use mathlib.Core.Bool.{Bool, true, false, cond}
 use mathlib.Core.Logic.{⊎_elim}
-use Prim.Native.Nat.{ℕ, zero, suc, ◌-◌, ◌<◌, ◌^◌}
+use Prim.Native.Nat.{ℕ, zero, suc, ◌-◌, ◌≤◌, ◌<◌, ◌^◌}
 use native.Mathlib.Omega.{arith}
 use native.Mathlib.Nat.{zero-add}
 use lib.Dec.{ltb, eqb}
@@ -11,6 +11,7 @@ use lib.Signed.{mag}
 use mir.Syntax.{w32}
 use mir.Val.{SFits, to_z, of_z}
 use mir.Facts.{to_z-of_z}
+use mir.ValLaws.{to_z_pos}
 use borrow.Author.Tests.{ne_eqb, eq-eqb, eqb-true, eqb-false, ltb-true, ltb-false}
 use Rattle.model.specs.Bytes.{eq_z, signed}
 use Rattle.laws.specs.Bools.{on-or-off}
@@ -20,6 +21,20 @@ use Rattle.laws.specs.Bools.{on-or-off}
 pub minus_one : (m : ℕ) → negsuc 0 -ℤ pos m ≡ negsuc m
 minus_one zero = refl
 minus_one (suc k) = ap (λ (n : ℕ). negsuc (suc n)) (zero-add k)
+
+-- A word from 2 ^ 31 on stands for a negative number, which fits.
+module _ (u : ℕ) (high : 2 ^ 31 ≤ u) where
+  upper_is : negsuc 0 -ℤ to_z w32 (4294967295 - u) ≡ negsuc (4294967295 - u)
+  upper_is = ap (λ (z : ℤ). negsuc 0 -ℤ z) (to_z_pos w32 (4294967295 - u) (omega arith)) ∙ minus_one (4294967295 - u)
+
+  upper-fits' : SFits w32 (negsuc (4294967295 - u))
+  upper-fits' = record { sfits = omega arith }
+
+  pub upper_fits : SFits w32 (negsuc 0 -ℤ to_z w32 (4294967295 - u))
+  upper_fits = subst (λ (z : ℤ). SFits w32 z) (sym upper_is) upper-fits'
+
+  pub upper : to_z w32 (of_z w32 (negsuc 0 -ℤ to_z w32 (4294967295 - u))) ≡ negsuc (4294967295 - u)
+  upper = to_z-of_z upper_fits ∙ upper_is
 
 -- The machine reads 32 bits as `signed` does.
 pub bits-signed : (word : ℕ) → to_z w32 word ≡ signed word

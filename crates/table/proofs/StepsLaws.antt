@@ -11,6 +11,10 @@ then-assoc : (a b c : Verdict) → ((a then b) then c) ≡ (a then (b then c))
 then-assoc (Ok u) b c = refl
 then-assoc (Err why) b c = refl
 
+pub then-end : (a : Verdict) → (a then Ok tt) ≡ a
+then-end (Ok u) = refl
+then-end (Err why) = refl
+
 module _ (table : List ℕ) (columns k : ℕ) where
   -- The chain of 3 to 8 can be cut off and taken up again.
   pub fields-next : (next : Verdict) → judge_fields table columns k next ≡ (judge_fields table columns k (Ok tt) then next)

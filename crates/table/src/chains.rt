@@ -25,13 +25,13 @@ pub fn judge_fields(before: &Before, columns: u8) -> Verdict
     if fails_column(before.table, columns, k) {
         return Err(Refusal::Column(k));
     }
-    if fails_part(before) {
+    if fails_part(before.table, k, before.terms) {
         return Err(Refusal::Part(k));
     }
-    if fails_reused(before) {
+    if fails_reused(before.table, k, before.used) {
         return Err(Refusal::Reused(k));
     }
-    if fails_stray(before) {
+    if fails_stray(before.table, k, before.near) {
         return Err(Refusal::Stray(k));
     }
     Ok(())

@@ -3,10 +3,10 @@
 // and LOOP, which look at a term's earlier values, stand in `runs`; CROWD in `chains`, APART in `apart`, the order of all of
 // them in `chains` and `judging`, and LOOSE in `verdict`.
 ghost use Rattle.std.specs.Prelude.{◌≡◌};
-ghost use Rattle.model.specs.Record.{record_at};
+ghost use Rattle.model.specs.Record.{record_at, nearest_term};
 ghost use Rattle.model.specs.Check.{fails_width, fails_length, fails_kind, fails_column, fails_part, fails_reused, fails_stray, fails_bounds};
+ghost use Rattle.table.specs.Carried.{TermsBelow, UsedBelow};
 
-use crate::before::Before;
 use model::{CompoundTerm, Kind, MOST_COLUMNS, MOST_TABLE_BYTES, RECORD_BYTES, Record};
 use records::parts::compound_at;
 use records::record::{kind_at, p_at, record_of, u_at, v_at};
@@ -61,43 +61,41 @@ fn reads_past(columns: u8, r: Record) -> bool
     }
 }
 
-// 6 PART: part not below the record's own number, or not a term.
+// 6 PART: part not below the record's own number, or not a term. `terms` are the terms below it.
 #[tactic(auto, unfolding(model::specs::Check::fails_part, model::specs::Search::any_in))]
-pub fn fails_part(before: &Before) -> bool
-    ensures { result ≡ fails_part before.now.table.now before.now.k }
+pub fn fails_part(table: &[u8], k: u8, terms: &[bool; 256]) -> bool
+    requires { TermsBelow table.now k terms.now }
+    ensures { result ≡ fails_part table.now k }
 {
-    let terms = before.terms;
-    match compound_at(before.table, before.k) {
+    match compound_at(table, k) {
         Some(CompoundTerm::Joined(_, p, q)) => !terms[p as usize] | !terms[q as usize],
         Some(CompoundTerm::Dual(p)) => !terms[p as usize],
         None => false,
     }
 }
 
-// 7 REUSED: part already a part of an earlier term, or both parts the same.
+// 7 REUSED: part already a part of an earlier term, or both parts the same. `used` are the parts of earlier terms.
 #[tactic(auto, unfolding(model::specs::Check::fails_reused, model::specs::Check::twice, model::specs::Search::any_in))]
-pub fn fails_reused(before: &Before) -> bool
-    ensures { result ≡ fails_reused before.now.table.now before.now.k }
+pub fn fails_reused(table: &[u8], k: u8, used: &[bool; 256]) -> bool
+    requires { UsedBelow table.now k used.now }
+    ensures { result ≡ fails_reused table.now k }
 {
-    let used = before.used;
-    match compound_at(before.table, before.k) {
+    match compound_at(table, k) {
         Some(CompoundTerm::Joined(_, p, q)) => used[p as usize] | used[q as usize] | (p == q),
         Some(CompoundTerm::Dual(p)) => used[p as usize],
         None => false,
     }
 }
 
-// 8 STRAY: value with no term before it, or role not taken there.
-pub fn fails_stray(before: &Before) -> bool
-    ensures { result ≡ fails_stray before.now.table.now before.now.k }
+// 8 STRAY: value with no term before it, or role not taken there. `near` is the nearest term before it.
+pub fn fails_stray(table: &[u8], k: u8, near: u8) -> bool
+    requires { near ≡ nearest_term table.now k }
+    ensures { result ≡ fails_stray table.now k }
 {
-    if kind_at(before.table, before.k) != Kind::Value as u8 {
+    if kind_at(table, k) != Kind::Value as u8 {
         return false;
     }
-    !takes_role(
-        record_of(kind_at(before.table, before.near), 0, 0, 0, 0),
-        p_at(before.table, before.k),
-    )
+    !takes_role(record_of(kind_at(table, near), 0, 0, 0, 0), p_at(table, k))
 }
 
 // 12 BOUNDS: BETWEEN with low above up.

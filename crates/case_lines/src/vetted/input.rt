@@ -29,7 +29,7 @@ pub fn each_case<R: Print + Input, F: Fn(&[u8]) -> io::Result<()>>(
 }
 
 // Reads until the buffer is full or the input ends. Returns how many bytes were read.
-fn read_full<R: Read>(input: &mut R, buf: &mut [u8]) -> io::Result<usize>
+pub fn read_full<R: Read>(input: &mut R, buf: &mut [u8]) -> io::Result<usize>
     ensures { ReadsAtMost result buf.new }
 {
     let mut n = 0;

@@ -13,7 +13,11 @@ pub fn beneath(of: &Numbered, exits: &[Exit; 128], term: u8) -> [bool; 128]
     requires low { PartsLow of.now.table.now term }
     ensures { Marked of.now.table.now term exits.now result }
 {
-    let mut marks = exits.map(|m| !m.is_nothing());
+    // A loop over places, of which many go at once: `map` makes the marks one by one.
+    let mut marks = [false; 128];
+    for i in 0..128 {
+        marks[i] = !exits[i].is_nothing();
+    }
     for k in (0..term + 1).rev() {
         if marks[k as usize] {
             mark_parts(of.record(k), &mut marks);

@@ -3,8 +3,7 @@ ghost use Rattle.std.specs.Prelude.{◌≡◌, ◌*◌, ◌≤◌, length};
 ghost use Rattle.terms.specs.Places.{Ends, leads_to};
 
 // Whether the number at place q is better than that at place p; 2 e is the place of a number in no edge.
-// As it is: 2 e for none is no plainer as an Option. It is the place past the last, and the rank that EXPLICIT gives such a
-// number.
+// As it is: 2 e for none is no plainer as an Option. It is the place past the last one of the ends.
 pub fn leads(reach: &[[bool; 32]], k: u8, e: u8, p: usize, q: usize) -> bool
     requires place { Ends k e p }
     requires other { Ends k e q }

@@ -78,8 +78,7 @@ impl Run<'_> {
     }
 
     // The first place of x among the ends of the edges, as a place of `numbers`; 2 e where x is in no edge.
-    // As it is: 2 e for none is no plainer as an Option. It is the place past the last, and the rank that EXPLICIT gives
-    // such a number.
+    // As it is: 2 e for none is no plainer as an Option. It is the place past the last one of the ends.
     pub fn end_place(&self, x: i32) -> usize
         ensures { EndPlace self.now.of.table.now self.now.k self.now.e x result }
     {

@@ -2,9 +2,14 @@ use Rattle.std.proofs.Common.{◌∙◌, ap, ◌+◌, ◌<◌, length, arith, le
 use Rattle.model.specs.Term.{term_at}
 use Rattle.model.specs.Compare.{outcome}
 use Rattle.laws.specs.Codes.{outcome_of, outcome-of-code}
-use Rattle.compare.proofs.OutcomesCoded.{term-below, codes-more}
+use Rattle.compare.proofs.OutcomesCoded.{term-below, record-ready, codes-more}
 use Rattle.compare.proofs.outcomes.Comparison.outcome.Goals as goal
 use Rattle.compare.proofs.outcomes.Comparison.outcome.Goals.{else-loop-k-test, then-loop-k-test+else-k-k-end}
+
+pub record_code-requires : goal.record_code-requires
+record_code-requires c =
+    let s = c.args.self.now in
+    record-ready s.of.table.now s.of.numbers.now s.ends.now s.reach.now s.term s.first.now s.second.now s.ready c.loop-k.k (omega arith)
 
 pub loop-k-preserved : goal.loop-k-preserved
 loop-k-preserved c =

@@ -33,9 +33,9 @@ returns-then-v-w c =
     same-is p r (based p r c.requires.step c.requires.base).1 s.first.now s.second.now
     (same_bits (sfits_of c.v-1.given) (sfits_of c.w-1.given) c.if-v-w.true)
 
-pub explicit_code-requires-clause-ranked : goal.explicit_code-requires-clause-ranked
+pub explicit_code-requires : goal.explicit_code-requires
 unfolding cell
-explicit_code-requires-clause-ranked c =
+explicit_code-requires c =
     let a = c.args in
     let s = a.self.now in
     let p = s.of.now.comparable in

@@ -9,7 +9,11 @@ pub name-requires : goal.name-requires
 name-requires c =
     let q = c.args.self.now in
     let w = c.first_names.ensures in
-    record { beyond = rest-named _ _ w; named = known-names _ _ q.of.rows.few _ _ q.settled c.requires.firsts _ _ w }
+    record {
+      codes = c.requires.codes;
+      beyond = rest-named _ _ w;
+      named = known-names _ _ q.of.rows.few _ _ q.settled c.requires.firsts _ _ w;
+    }
 
 pub returns : goal.returns
 returns c =

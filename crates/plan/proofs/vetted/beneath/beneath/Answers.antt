@@ -1,25 +1,19 @@
 use mathlib.Core.Path.{◌≡◌, sym, ◌∙◌}
-use mathlib.Core.Bool.{false, not}
-use Prim.Native.Nat.{ℕ, ◌+◌, ◌-◌, ◌<◌}
+use Prim.Native.Nat.{◌+◌, ◌-◌}
 use native.Mathlib.Omega.{arith}
-use lib.ListN.{get_or}
-use borrow.Author.Rules.{rules}
 use borrow.Author.Tests.{not-false}
-use Rattle.plan.specs.declared.vetted.exit_masks.Exit.TheVariants.{Nothing}
-use Rattle.plan.specs.Told.{is_nothing}
 use Rattle.plan.proofs.Bits.{nothing-is}
 use Rattle.plan.proofs.BeneathLaws.{parts_in, marked_start, unmarked-same, marked-more}
 use Rattle.plan.proofs.vetted.beneath.beneath.Goals as goal
 
 pub loop-k-init : goal.loop-k-init
 loop-k-init c =
-    let exits = c.args.exits.now in
-    let marks = c.map-marks.result in
-    let m = c.map-marks.ensures.items in
-    let unless : (k : ℕ) → k < 128 → get_or marks k false ≡ not (is_nothing (get_or exits k Nothing)) =
-    λ k l. let w = m.at k Nothing false l in search rules in
-    marked_start c.args.of.now.table.now c.args.term exits marks
-    (record { room = m.long; each = λ k l off. nothing-is _ (not-false _ (sym (unless k l) ∙ off)) })
+    let all : c.loop-i.i ≡ 128 = omega arith in
+    marked_start c.args.of.now.table.now c.args.term c.args.exits.now c.loop-i.marks
+    (record {
+      room = c.loop-i.invariant.0;
+      each = λ k l off. nothing-is _ (not-false _ (sym (c.loop-i.invariant.1 k (rw all l)) ∙ off));
+    })
 
 pub mark_parts-requires : goal.mark_parts-requires
 mark_parts-requires c =
