@@ -7,5 +7,7 @@ mod entry;
 mod kept_list;
 mod meetings;
 mod rounds;
+#[cfg(test)]
+mod tests;
 pub mod vetted;
 mod witnesses;

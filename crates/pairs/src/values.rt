@@ -40,6 +40,17 @@ pub fn explicit_code(
 }
 
 impl Pairs<'_> {
+    // The code of v and w, whose ranks are x and y, under EXPLICIT term k of the pairs' own table. The engine calls the function
+    // above; this one is for another crate that holds the pairs.
+    pub fn explicit_code(&self, k: u8, v: i32, w: i32, x: i32, y: i32) -> u8
+        requires few { k < 128 }
+        requires ranked { TwoRanked self.now.table.now self.now.reach.now k (get_or self.now.ends.now k 0) Explicit v w x y }
+        ensures { result ≡ apart_code Explicit (values_between self.now.table.now k (get_or self.now.ends.now k 0)) v w }
+    {
+        let e = self.ends[k as usize];
+        explicit_code(self.table, self.reach, k, e, v, w, x, y)
+    }
+
     // The rank of row i under record k.
     pub fn rank_at(&self, i: usize, k: u8) -> i32
         requires row { i < self.now.rows.n }
