@@ -1,8 +1,6 @@
 // What another crate can ask of the pairs and the engine does not: the code of two values by their edges. The expected codes
 // are by hand, from Example 8 of the report: edges 4 to 3, 4 to 2 and 3 to 1, each to its better value.
-ghost use Rattle.std.specs.Prelude.{◌≡◌, ◌<◌};
-ghost use Rattle.model.specs.Better.{cell};
-ghost use Rattle.model.specs.Query.{row_at};
+ghost use Rattle.std.specs.Prelude.{◌≡◌, ◌≤◌};
 
 use model::{BaseTerm, Record, Refusal};
 use pairs::vetted::pairs::Pairs;
@@ -10,6 +8,7 @@ use plan::vetted::beneath::beneath;
 use plan::vetted::exits::exits;
 use plan::vetted::ops::ops;
 use ranks::vetted::table::fill_ranks;
+use rows::vetted::column::Column;
 use rows::vetted::run::Rows;
 use selection::vetted::asked::Asked;
 use table::vetted::asked::term_verdict;
@@ -109,7 +108,8 @@ fn code_of<'a>(
 
 // The same by what is prepared of the table and the rows.
 fn values_code(pairs: &Pairs, of: &Numbered, i: usize, j: usize) -> Option<u8>
-    requires { of.now.table.now ≡ pairs.now.table.now }
+    requires table { of.now.table.now ≡ pairs.now.table.now }
+    requires few { pairs.now.rows.n ≤ 64 }
 {
     let k = EDGES;
     if let Record::Base(c, BaseTerm::Explicit) = of.record(k)
@@ -118,21 +118,17 @@ fn values_code(pairs: &Pairs, of: &Numbered, i: usize, j: usize) -> Option<u8>
         && i < pairs.rows.n
         && j < pairs.rows.n
     {
-        let v = cell(&pairs.rows, i, c);
-        let w = cell(&pairs.rows, j, c);
+        let cells = Column {
+            rows: pairs.rows,
+            b: 0,
+            c: c as usize,
+        }
+        .cells();
+        let v = cells[i];
+        let w = cells[j];
         let x = pairs.rank_at(i, k);
         let y = pairs.rank_at(j, k);
         return Some(pairs.explicit_code(k, v, w, x, y));
     }
     None
-}
-
-fn cell(rows: &Rows, i: usize, c: u8) -> i32
-    requires row { i < rows.now.n }
-    requires column { c < rows.now.columns }
-    ensures { result ≡ cell (row_at rows.now.columns rows.now.cells.now i) c }
-{
-    let start = i * rows.columns;
-    let row = &rows.cells[start..start + rows.columns];
-    row[c as usize]
 }
